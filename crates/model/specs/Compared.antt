@@ -1,0 +1,64 @@
+-- Document 01, 'What demand 3 compares': the whole walk, its certificate, each run's probes, binary digits, the bound. Definitions only.
+use Prim.Native.Nat.{ℕ, zero, suc, _+_, _*_, _^_}
+use mathlib.Core.Bool.{Bool, true, false}
+use mathlib.Core.List.{List, [], _∷_}
+use lib.ListN.{length}
+use lib.Dec.{ltb, eqb}
+use Rattle.model.specs.Certificate.{Part, answer, gap}
+use Rattle.model.specs.Runs.{Run, firstBin, pastBin, total, one}
+use Rattle.model.specs.Walk.{Event, sought, doubled, halved, wrote, walk}
+
+-- The whole walk is the walk with an allowance and buffers that never run out. A floor starts at 0 and no round leaves it where it was, so there
+-- are no more rounds than bins.
+unfoldable pub wholeWalk : ℕ → List Run → List Event
+wholeWalk t rs = walk pastBin t firstBin rs
+
+-- The parts that a walk writes; the whole certificate is what the whole walk writes.
+unfoldable pub partsOf : List Event → List Part
+partsOf [] = []
+partsOf (sought i ∷ es) = partsOf es
+partsOf (doubled i ∷ es) = partsOf es
+partsOf (halved i ∷ es) = partsOf es
+partsOf (wrote p ∷ es) = p ∷ partsOf es
+
+unfoldable pub wholeCertificate : ℕ → List Run → List Part
+wholeCertificate t rs = partsOf (wholeWalk t rs)
+
+-- a sum over what a walk does
+unfoldable pub cost : (Event → ℕ) → List Event → ℕ
+cost c [] = 0
+cost c (e ∷ es) = c e + cost c es
+
+-- A run's probes are those of the searches in that run, each counted once.
+unfoldable pub probeIn : ℕ → Event → ℕ
+probeIn i (sought j) = 0
+probeIn i (doubled j) = one (eqb i j)
+probeIn i (halved j) = one (eqb i j)
+probeIn i (wrote p) = 0
+
+unfoldable pub probesIn : ℕ → List Event → ℕ
+probesIn i es = cost (probeIn i) es
+
+unfoldable pub probe : Event → ℕ
+probe (sought i) = 0
+probe (doubled i) = 1
+probe (halved i) = 1
+probe (wrote p) = 0
+
+unfoldable pub probesOf : List Event → ℕ
+probesOf es = cost probe es
+
+-- The binary digits of n are the least b for which n is below 2 to the power b. (n is below 2 to the power n.)
+unfoldable pub digitsFrom : ℕ → ℕ → ℕ → ℕ
+digitsFrom zero b n = b
+digitsFrom (suc fuel) b n = elim (ltb n (2 ^ b)) [ true ↦ b | false ↦ digitsFrom fuel (suc b) n ]
+
+unfoldable pub digits : ℕ → ℕ
+digits n = digitsFrom n 0 n
+
+-- 2 × d × b for one run, and the sum of these bounds over all lists
+unfoldable pub boundIn : ℕ → Run → ℕ
+boundIn d r = 2 * d * digits (length (r .bins))
+
+unfoldable pub bound : ℕ → List Run → ℕ
+bound d rs = total (boundIn d) rs

@@ -1,0 +1,78 @@
+-- The customer's demands 2 and 3 as statements, each about what a call returns and leaves in its buffers. Definitions only.
+use Prim.Native.Nat.{ℕ, suc, _*_, _≤_, _<_}
+use mathlib.Core.List.{List, [], _∷_, List·Memᴰ}
+use mathlib.Core.Logic.{_≢_, _↔_}
+use mathlib.Core.Option.{none}
+use mathlib.Core.Path.{_≡_}
+use lib.ListN.{length, take}
+use Rattle.model.specs.Certificate.{Part, answersOf, encode, TrueCertificate}
+use Rattle.model.specs.Compared.{wholeWalk, wholeCertificate, probesIn, boundIn, bound}
+use Rattle.model.specs.Refusals.{Check, passed, firstChecks, cutWalk, Outcome, accepted, refused, Verdict, valid}
+use Rattle.model.specs.Runs.{Run, runs, unrisen, holds, total, count}
+
+-- A lent row of 32-bit numbers, a lent row of bytes: each of its numbers is below w.
+pub record Fits (w : ℕ) (row : List ℕ) : Type 0 where
+  pub each : (x : ℕ) → List·Memᴰ x row → x < w
+
+-- What an outcome returns: the answers, parts, bytes and probes, the part count of a walk refusal being its place.
+unfoldable pub answersIn : Outcome → ℕ
+answersIn (accepted a n b q) = a
+answersIn (refused x n a b q) = a
+
+unfoldable pub partsIn : Outcome → ℕ
+partsIn (accepted a n b q) = n
+partsIn (refused x n a b q) = n
+
+unfoldable pub bytesIn : Outcome → ℕ
+bytesIn (accepted a n b q) = b
+bytesIn (refused x n a b q) = b
+
+unfoldable pub probesMade : Outcome → ℕ
+probesMade (accepted a n b q) = q
+probesMade (refused x n a b q) = q
+
+-- the refusal's number, 0 where the question is accepted
+unfoldable pub refusedBy : Outcome → ℕ
+refusedBy (accepted a n b q) = 0
+refusedBy (refused x n a b q) = x
+
+-- The answers are all the bins held by at least t lists, and no others, rising, each once.
+pub record Exact (rs : List Run) (t : ℕ) (answers : List ℕ) : Type 0 where
+  pub all-held : (x : ℕ) → List·Memᴰ x answers ↔ (t ≤ count (λ r. holds x (r .bins)) rs)
+  pub rising : unrisen 0 answers ≡ none
+
+-- Demand 2 for a question. When a walk reaches its end, the answers are all the bins held by at least t lists, and no others, rising, each once. The
+-- certificate beside them is true by the paper's rule. A walk that stops early has written the first parts of that same certificate and
+-- their answers.
+pub record Demand2 (numbers ends : List ℕ) (t : ℕ) (o : Outcome) (answers certificate : List ℕ) : Type 0 where
+  pub exact : Exact (runs numbers ends) t (answersOf (wholeCertificate t (runs numbers ends)))
+  pub is-true : TrueCertificate (runs numbers ends) t (wholeCertificate t (runs numbers ends))
+  pub at-the-end : refusedBy o ≡ 0 → partsIn o ≡ length (wholeCertificate t (runs numbers ends))
+  pub parts : take (bytesIn o) certificate ≡ encode (take (partsIn o) (wholeCertificate t (runs numbers ends)))
+  pub answered : take (answersIn o) answers ≡ answersOf (take (partsIn o) (wholeCertificate t (runs numbers ends)))
+
+-- Demand 2 for the checker: it accepts a certificate, whoever wrote it, if it is true and only then; the counts are the certificate's.
+pub record Accepts (rs : List Run) (t : ℕ) (certificate : List ℕ) (v : Verdict) : Type 0 where
+  pub only-true : (a n : ℕ) → v ≡ valid a n
+      → (ps : List Part) × TrueCertificate rs t ps × (certificate ≡ encode ps) × (a ≡ length (answersOf ps)) × (n ≡ length ps)
+  pub every-true : (ps : List Part) → TrueCertificate rs t ps → certificate ≡ encode ps → v ≡ valid (length (answersOf ps)) (length ps)
+
+-- Demand 3, for a certificate of d parts. The walk's whole certificate has at most d parts, and so no more are written by a walk that stops early. In a
+-- list of n numbers the walk makes at most 2 × d × b probes. The probes returned are the sum over the lists of those that the walk makes
+-- up to where it ends, early or not. An allowance no smaller than the sum of these bounds over all lists never ends as spent.
+pub record Bounded (rs : List Run) (t allowance : ℕ) (answers before : List ℕ) (o : Outcome) (after : List ℕ) (d : ℕ) : Type 0 where
+  pub fewest : length (wholeCertificate t rs) ≤ d
+  pub written : take (bytesIn o) after ≡ encode (take (partsIn o) (wholeCertificate t rs))
+  pub few : partsIn o ≤ d
+  pub each-whole : (r : Run) → List·Memᴰ r rs → probesIn (r .label) (wholeWalk t rs) ≤ boundIn d r
+  pub each : (r : Run) → List·Memᴰ r rs
+      → probesIn (r .label) (cutWalk t rs allowance (length answers) (length before) .events) ≤ boundIn d r
+  pub sum : probesMade o
+      ≡ total (λ r. probesIn (r .label) (cutWalk t rs allowance (length answers) (length before) .events)) rs
+  pub enough : bound d rs ≤ allowance → refusedBy o ≢ 7
+
+-- Demand 3 whole: for all lists and every threshold that pass the first checks, for every true certificate of them, whoever wrote it, and whatever
+-- allowance and buffers our walk is lent. The outcome and the certificate buffer after the call are the call's own.
+pub record Demand3 (numbers ends : List ℕ) (t allowance : ℕ) (answers before : List ℕ) (o : Outcome) (after : List ℕ) : Type 0 where
+  pub for-every : firstChecks numbers ends t ≡ passed → (ps : List Part) → TrueCertificate (runs numbers ends) t ps
+      → Bounded (runs numbers ends) t allowance answers before o after (length ps)

@@ -1,0 +1,86 @@
+-- Document 01, 'Instances with their answers': the starred ones, and one that tells rounding the halving place down from rounding it up.
+-- Definitions only.
+use Prim.Native.Nat.{ℕ}
+use mathlib.Core.List.{List, [], _∷_, map}
+use mathlib.Core.Path.{_≡_}
+use lib.ListN.{length, take, replicate}
+use Rattle.model.specs.Certificate.{Part, answer, gap, answersOf, encode}
+use Rattle.model.specs.Refusals.{Outcome, accepted, refused, Answered, over, query}
+
+-- A question, and what it returns and writes. Its buffers are large enough: 8 answers and 128 bytes, of zeros.
+pub record Instance : Type 0 where
+  pub numbers : List ℕ
+  pub ends : List ℕ
+  pub threshold : ℕ
+  pub allowance : ℕ
+  pub outcome : Outcome
+  pub parts : List Part
+
+unfoldable pub asked : Instance → Answered
+asked i = query (i .numbers) (i .ends) (i .threshold) (i .allowance) (replicate 8 0) (replicate 128 0)
+
+unfoldable pub expected : Instance → Answered
+expected i =
+    record {
+      outcome = i .outcome;
+      answers = over (answersOf (i .parts)) (replicate 8 0);
+      certificate = over (encode (i .parts)) (replicate 128 0);
+    }
+
+-- {2, 5, 9}, {5, 7, 9, 12} and {1, 9}, t = 2, with an allowance
+unfoldable pub listing : ℕ → Outcome → List Part → Instance
+listing allowance o ps =
+    record {
+      numbers = 2 ∷ 5 ∷ 9 ∷ 5 ∷ 7 ∷ 9 ∷ 12 ∷ 1 ∷ 9 ∷ [];
+      ends = 3 ∷ 7 ∷ 9 ∷ [];
+      threshold = 2;
+      allowance = allowance;
+      outcome = o;
+      parts = ps;
+    }
+
+-- the seven runs of figure 1 in source document 001, with a threshold
+unfoldable pub figure1 : ℕ → Outcome → List Part → Instance
+figure1 t o ps =
+    record {
+      numbers = 9 ∷ 1 ∷ 2 ∷ 9 ∷ 11 ∷ 3 ∷ 9 ∷ 12 ∷ 13 ∷ 9 ∷ 14 ∷ 15 ∷ 16 ∷ 4 ∷ 10 ∷ 17 ∷ 18 ∷ 5 ∷ 6 ∷ 7 ∷ 10 ∷ 8 ∷ 10 ∷ 19 ∷ 20 ∷ [];
+      ends = 1 ∷ 5 ∷ 9 ∷ 13 ∷ 17 ∷ 21 ∷ 25 ∷ [];
+      threshold = t;
+      allowance = 1000;
+      outcome = o;
+      parts = ps;
+    }
+
+-- any other instance, with an allowance that is large enough
+unfoldable pub instance : List ℕ → List ℕ → ℕ → Outcome → List Part → Instance
+instance numbers ends t o ps =
+    record { numbers = numbers; ends = ends; threshold = t; allowance = 1000; outcome = o; parts = ps }
+
+unfoldable pub listingParts : List Part
+listingParts = gap 0 1 3 ∷ gap 2 4 6 ∷ answer 5 3 ∷ gap 6 8 5 ∷ answer 9 7 ∷ gap 10 4294967295 5 ∷ []
+
+unfoldable pub starred : List Instance
+starred =
+    listing 3 (accepted 2 6 106 3) listingParts ∷
+    listing 2 (refused 7 4 1 72 2) (take 4 listingParts) ∷
+    listing 0 (refused 7 1 0 19 0) (take 1 listingParts) ∷
+    instance (100 ∷ 10 ∷ 20 ∷ 30 ∷ 40 ∷ 50 ∷ 60 ∷ 70 ∷ 80 ∷ 90 ∷ 100 ∷ []) (1 ∷ 11 ∷ []) 2 (accepted 1 3 53 5)
+    (gap 0 99 1 ∷ answer 100 3 ∷ gap 101 4294967295 3 ∷ []) ∷
+    instance (1 ∷ 2 ∷ 3 ∷ 4 ∷ 5 ∷ 6 ∷ []) (3 ∷ 6 ∷ []) 2 (accepted 0 2 38 2) (gap 0 3 2 ∷ gap 4 4294967295 1 ∷ []) ∷
+    instance (0 ∷ 4294967295 ∷ []) (2 ∷ []) 1 (accepted 2 3 49 0) (answer 0 1 ∷ gap 1 4294967294 1 ∷ answer 4294967295 1 ∷ []) ∷
+    instance [] (0 ∷ []) 1 (accepted 0 1 19 0) (gap 0 4294967295 1 ∷ []) ∷
+    instance (7 ∷ 7 ∷ []) (1 ∷ 2 ∷ []) 2 (accepted 1 3 53 0) (gap 0 6 3 ∷ answer 7 3 ∷ gap 8 4294967295 3 ∷ []) ∷
+    figure1 7 (accepted 0 3 57 11) (gap 0 8 9 ∷ gap 9 9 112 ∷ gap 10 4294967295 1 ∷ []) ∷
+    figure1 4 (accepted 1 6 110 13)
+    (gap 0 4 105 ∷ gap 5 8 31 ∷ answer 9 15 ∷ gap 10 10 15 ∷ gap 11 16 113 ∷ gap 17 4294967295 47 ∷ []) ∷
+    []
+
+-- Not in document 01: between places 4 and 7 the halving place is 5. Rounded up it would be 6, and 5 probes in all.
+unfoldable pub roundedDown : Instance
+roundedDown =
+    instance (10 ∷ 20 ∷ 30 ∷ 40 ∷ 50 ∷ 60 ∷ 70 ∷ 55 ∷ []) (7 ∷ 8 ∷ []) 2 (accepted 0 3 57 4)
+    (gap 0 54 2 ∷ gap 55 59 1 ∷ gap 60 4294967295 2 ∷ [])
+
+-- The claim: each instance is answered as expected.
+pub record AsExpected (is : List Instance) : Type 0 where
+  pub same : map asked is ≡ map expected is

@@ -1,0 +1,190 @@
+-- Document 01, 'Where each refusal arises': the first checks, the walk with an allowance and buffers, and the outcomes of question and checker for
+-- any input. Definitions only.
+use Prim.Native.Nat.{ℕ, zero, suc, _+_, _-_, _*_, _/_, _^_}
+use mathlib.Core.Bool.{Bool, true, false, _&&_, _||_, not}
+use mathlib.Core.List.{List, [], _∷_, _++_}
+use mathlib.Core.Option.{Option, none, some}
+use lib.Count.{ones}
+use lib.Dec.{ltb, leb, eqb}
+use lib.ListN.{length, drop}
+use Rattle.model.specs.Certificate.{Part, answer, gap, firstOf, lastOf, answersOf, encode, sizeOf, Reading, unreadable, read, readField}
+use Rattle.model.specs.Compared.{wholeWalk, partsOf, probesOf}
+use Rattle.model.specs.Range.{within}
+use Rattle.model.specs.Runs.{Run, firstBin, pastBin, runs, unrisen, holds, names}
+use Rattle.model.specs.Walk.{Event, sought, doubled, halved, wrote}
+
+-- A check is passed or is refused with the refusal's number and place. Checks are made in order, and the first one met decides.
+pub data Check : Type 0 where
+  passed : Check
+  refusal : (number place : ℕ) → Check
+
+infixr 20 _then_
+unfoldable pub _then_ : Check → Check → Check
+passed then c = c
+refusal n p then c = refusal n p
+
+-- refused with a number and a place where a test holds, or at the place found
+unfoldable pub refuseIf : Bool → ℕ → ℕ → Check
+refuseIf true n p = refusal n p
+refuseIf false n p = passed
+
+unfoldable pub refuseAt : ℕ → Option ℕ → Check
+refuseAt n none = passed
+refuseAt n (some p) = refusal n p
+
+-- An end is below the one before: its index, the first such. (Here: b is the one before and i the index of the first of the ends.)
+unfoldable pub fallsFrom : ℕ → ℕ → List ℕ → Option ℕ
+fallsFrom b i [] = none
+fallsFrom b i (e ∷ ends) = elim (ltb e b) [ true ↦ some i | false ↦ fallsFrom e (suc i) ends ]
+
+unfoldable pub lastEnd : ℕ → List ℕ → ℕ
+lastEnd b [] = b
+lastEnd b (e ∷ ends) = lastEnd e ends
+
+-- A number is not above the one before it in its run: its index in the row, the first such. (Here: the first run starts at index a.)
+unfoldable pub unrisenIn : ℕ → List Run → Option ℕ
+unrisenIn a [] = none
+unrisenIn a (r ∷ rs) = elim (unrisen a (r .bins)) [ some i ↦ some i | none ↦ unrisenIn (a + length (r .bins)) rs ]
+
+-- The first checks, those of the door, in the order of the table.
+unfoldable pub firstChecks : List ℕ → List ℕ → ℕ → Check
+firstChecks numbers ends t =
+    refuseIf (eqb (length ends) 0 || ltb 64 (length ends)) 1 (length ends) then
+    refuseIf (eqb t 0 || ltb (length ends) t) 2 t then
+    refuseAt 3 (fallsFrom 0 0 ends) then
+    refuseIf (not (eqb (lastEnd 0 ends) (length numbers)) || ltb 1048576 (length numbers)) 3 (length ends) then
+    refuseAt 4 (unrisenIn 0 (runs numbers ends))
+
+-- What is left of the allowance, the answer buffer and the certificate buffer.
+pub record Room : Type 0 where
+  pub probes : ℕ
+  pub answers : ℕ
+  pub bytes : ℕ
+
+-- At a probe 7, if the allowance is used up. At an answer 5, if the answer buffer is full, before 6. At any part 6, if it does not fit whole in the
+-- certificate buffer. (0: nothing is refused.)
+unfoldable pub met : Room → Event → ℕ
+met room (sought i) = 0
+met room (doubled i) = elim (eqb (room .probes) 0) [ true ↦ 7 | false ↦ 0 ]
+met room (halved i) = elim (eqb (room .probes) 0) [ true ↦ 7 | false ↦ 0 ]
+met room (wrote (answer v m)) =
+    elim (eqb (room .answers) 0) [ true ↦ 5 | false ↦ elim (ltb (room .bytes) 15) [ true ↦ 6 | false ↦ 0 ] ]
+met room (wrote (gap f l m)) = elim (ltb (room .bytes) 19) [ true ↦ 6 | false ↦ 0 ]
+
+unfoldable pub after : Room → Event → Room
+after room (sought i) = room
+after room (doubled i) = record { probes = room .probes - 1; answers = room .answers; bytes = room .bytes }
+after room (halved i) = record { probes = room .probes - 1; answers = room .answers; bytes = room .bytes }
+after room (wrote (answer v m)) = record { probes = room .probes; answers = room .answers - 1; bytes = room .bytes - 15 }
+after room (wrote (gap f l m)) = record { probes = room .probes; answers = room .answers; bytes = room .bytes - 19 }
+
+-- A walk that refusal 5, 6 or 7 ends is the whole walk up to that check. What was done, and the refusal's number, 0 where no refusal ends it.
+pub record Ended : Type 0 where
+  pub events : List Event
+  pub refused : ℕ
+
+unfoldable pub cut : Room → List Event → Ended
+cut room [] = record { events = []; refused = 0 }
+cut room (e ∷ es) =
+    elim (met room e) [
+      | zero ↦ let rest = cut (after room e) es in record { events = e ∷ rest .events; refused = rest .refused }
+      | suc n ↦ record { events = []; refused = suc n }
+    ]
+
+unfoldable pub cutWalk : ℕ → List Run → ℕ → ℕ → ℕ → Ended
+cutWalk t rs allowance answers bytes = cut (record { probes = allowance; answers = answers; bytes = bytes }) (wholeWalk t rs)
+
+-- An accepted question returns counts of answers, parts, bytes and probes. A refused one returns its number, its place, the answers and certificate
+-- bytes written and the probes made; these are zero at the door, and the place of a walk refusal is the number of whole parts written.
+pub data Outcome : Type 0 where
+  accepted : (answers parts bytes probes : ℕ) → Outcome
+  refused : (number place answers bytes probes : ℕ) → Outcome
+
+-- The outcome of a question with what then stands in the answer buffer and in the certificate buffer.
+pub record Answered : Type 0 where
+  pub outcome : Outcome
+  pub answers : List ℕ
+  pub certificate : List ℕ
+
+-- what was written, and every later place unchanged
+unfoldable pub over : List ℕ → List ℕ → List ℕ
+over written buffer = written ++ drop (length written) buffer
+
+unfoldable pub outcomeOf : Ended → Outcome
+outcomeOf e =
+    let ps = partsOf (e .events) in
+    let a = length (answersOf ps) in
+    let b = length (encode ps) in
+    let q = probesOf (e .events) in
+    elim (e .refused) [ zero ↦ accepted a (length ps) b q | suc n ↦ refused (suc n) (length ps) a b q ]
+
+unfoldable pub query : List ℕ → List ℕ → ℕ → ℕ → List ℕ → List ℕ → Answered
+query numbers ends t allowance answers certificate =
+    elim (firstChecks numbers ends t) [
+      | passed ↦
+          let e = cutWalk t (runs numbers ends) allowance (length answers) (length certificate) in
+          record {
+            outcome = outcomeOf e;
+            answers = over (answersOf (partsOf (e .events))) answers;
+            certificate = over (encode (partsOf (e .events))) certificate;
+          }
+      | refusal n p ↦ record { outcome = refused n p 0 0 0; answers = answers; certificate = certificate }
+    ]
+
+-- The checker returns the counts of answers and parts, both zero on a refusal.
+pub data Verdict : Type 0 where
+  valid : (answers parts : ℕ) → Verdict
+  invalid : (number place : ℕ) → Verdict
+
+-- Refusal 9 at a field: its first number (or value) is not the next uncovered bin, its last is below its first, or nothing is uncovered.
+unfoldable pub misplaced : ℕ → Part → Bool
+misplaced b p = not (eqb (firstOf p) b) || (ltb (lastOf p) (firstOf p) || eqb b pastBin)
+
+-- Refusal 10: the mask names a run not below k, or too few.
+unfoldable pub misnamed : ℕ → ℕ → Part → Bool
+misnamed k t (answer v m) = not (eqb (m / 2 ^ k) 0) || ltb (ones m) t
+misnamed k t (gap f l m) = not (eqb (m / 2 ^ k) 0) || ltb (ones m) (k - t + 1)
+
+-- Refusal 11: a named run contradicts the part.
+unfoldable pub contradicts : Part → Run → Bool
+contradicts (answer v m) r = names m r && not (holds v (r .bins))
+contradicts (gap f l m) r = names m r && not (eqb (length (within f l (r .bins))) 0)
+
+unfoldable pub anyContradicts : Part → List Run → Bool
+anyContradicts p [] = false
+anyContradicts p (r ∷ rs) = contradicts p r || anyContradicts p rs
+
+unfoldable pub checkPart : List Run → ℕ → ℕ → ℕ → Part → Check
+checkPart rs t b at p =
+    refuseIf (misplaced b p) 9 at then
+    refuseIf (misnamed (length rs) t p) 10 at then
+    refuseIf (anyContradicts p rs) 11 at
+
+-- one more part, which is an answer or a gap
+unfoldable pub counted : Part → Verdict → Verdict
+counted (answer v m) (valid a n) = valid (suc a) (suc n)
+counted (answer v m) (invalid x y) = invalid x y
+counted (gap f l m) (valid a n) = valid a (suc n)
+counted (gap f l m) (invalid x y) = invalid x y
+
+-- The checker settles one field fully before the next, from the next uncovered bin b and the offset at on. At the end: a bin is still uncovered. (Each
+-- field has at least one byte.)
+unfoldable pub checkFrom : ℕ → List Run → ℕ → ℕ → ℕ → List ℕ → Verdict
+checkFrom zero rs t b at bytes = elim (eqb b pastBin) [ true ↦ valid 0 0 | false ↦ invalid 9 at ]
+checkFrom (suc fuel) rs t b at [] = elim (eqb b pastBin) [ true ↦ valid 0 0 | false ↦ invalid 9 at ]
+checkFrom (suc fuel) rs t b at (x ∷ bytes) =
+    elim (readField (x ∷ bytes)) [
+      | unreadable ↦ invalid 8 at
+      | read p rest ↦
+          elim (checkPart rs t b at p) [
+            | refusal n place ↦ invalid n place
+            | passed ↦ counted p (checkFrom fuel rs t (suc (lastOf p)) (at + sizeOf p) rest)
+          ]
+    ]
+
+unfoldable pub check : List ℕ → List ℕ → ℕ → List ℕ → Verdict
+check numbers ends t certificate =
+    elim (firstChecks numbers ends t) [
+      | passed ↦ checkFrom (length certificate) (runs numbers ends) t firstBin 0 certificate
+      | refusal n p ↦ invalid n p
+    ]

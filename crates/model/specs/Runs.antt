@@ -1,0 +1,67 @@
+-- Document 01, 'The lists as lent': numbers and ends as runs, and masks over them. Definitions only.
+use Prim.Native.Nat.{ℕ, zero, suc, _+_, _-_, _/_, _%_, _^_}
+use mathlib.Core.Bool.{Bool, true, false}
+use mathlib.Core.List.{List, [], _∷_}
+use mathlib.Core.Option.{Option, none, some}
+use lib.ListN.{take, drop}
+use lib.Dec.{ltb, leb, eqb}
+
+-- A bin is a whole number from 0 to 4294967295: the first, the last, and the number after the last.
+unfoldable pub firstBin : ℕ
+firstBin = 0
+
+unfoldable pub lastBin : ℕ
+lastBin = 4294967295
+
+unfoldable pub pastBin : ℕ
+pastBin = 4294967296
+
+-- A run is one rising list of bins. The label is its number; where a walk has moved on, the bins are those from the run's position on.
+pub record Run : Type 0 where
+  pub label : ℕ
+  pub bins : List ℕ
+
+-- Run 0 starts at place 0, and run i starts at the end of run i − 1. (Here: the runs from label i on, the first of them from place a on.)
+unfoldable pub runsFrom : ℕ → ℕ → List ℕ → List ℕ → List Run
+runsFrom i a numbers [] = []
+runsFrom i a numbers (e ∷ ends) =
+    record { label = i; bins = take (e - a) (drop a numbers) } ∷ runsFrom (suc i) e numbers ends
+
+unfoldable pub runs : List ℕ → List ℕ → List Run
+runs numbers ends = runsFrom 0 0 numbers ends
+
+-- Inside a run each number is greater than the one before. Where one is not: the place of the first such, x being at place i.
+unfoldable pub unrisenAfter : ℕ → ℕ → List ℕ → Option ℕ
+unrisenAfter i x [] = none
+unrisenAfter i x (y ∷ s) = elim (ltb x y) [ true ↦ unrisenAfter (suc i) y s | false ↦ some (suc i) ]
+
+unfoldable pub unrisen : ℕ → List ℕ → Option ℕ
+unrisen i [] = none
+unrisen i (x ∷ s) = unrisenAfter i x s
+
+-- a run holds a bin
+unfoldable pub holds : ℕ → List ℕ → Bool
+holds x [] = false
+holds x (y ∷ s) = elim (eqb x y) [ true ↦ true | false ↦ holds x s ]
+
+-- a sum over the runs, and the number of runs that pass a test
+unfoldable pub total : (Run → ℕ) → List Run → ℕ
+total g [] = 0
+total g (r ∷ rs) = g r + total g rs
+
+unfoldable pub one : Bool → ℕ
+one true = 1
+one false = 0
+
+unfoldable pub count : (Run → Bool) → List Run → ℕ
+count p rs = total (λ r. one (p r)) rs
+
+-- A mask is a 64-bit number in which bit i speaks of run i, bit 0 being the lowest. The mask that names the runs that pass a test:
+unfoldable pub mask : (Run → Bool) → List Run → ℕ
+mask p rs = total (λ r. elim (p r) [ true ↦ 2 ^ r .label | false ↦ 0 ]) rs
+
+unfoldable pub bit : ℕ → ℕ → ℕ
+bit m i = m / 2 ^ i % 2
+
+unfoldable pub names : ℕ → Run → Bool
+names m r = eqb (bit m (r .label)) 1

@@ -1,0 +1,20 @@
+#!/usr/bin/env bash
+# The whole test: layout, proofs with their must-fail edits and programs, then Rust. The last line is the prover's own tally, printed again only if
+# everything else passed too.
+set -euo pipefail
+cd "$(dirname "$0")/.."
+
+rt fmt --check
+
+log=$(mktemp)
+trap 'rm -f "$log"' EXIT
+rt ci 2>&1 | tee "$log"
+tally=$(tail -n 1 "$log")
+case "$tally" in
+  *" passed, 0 failed") ;;
+  *) exit 1 ;;
+esac
+
+(cd rust && cargo test --release --offline --quiet)
+
+printf '%s\n' "$tally"
