@@ -1,1 +1,9 @@
+pub mod Count
+pub mod Digits
+pub mod From
+pub mod Heads
 pub mod Instances
+pub mod Masks
+pub mod Searching
+pub mod Tests
+pub mod Walking

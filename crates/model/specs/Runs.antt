@@ -1,5 +1,5 @@
 -- Document 01, 'The lists as lent': numbers and ends as runs, and masks over them. Definitions only.
-use Prim.Native.Nat.{ℕ, zero, suc, _+_, _-_, _/_, _%_, _^_}
+use Prim.Native.Nat.{ℕ, zero, suc, _+_, _-_, _*_, _/_, _%_, _^_}
 use mathlib.Core.Bool.{Bool, true, false}
 use mathlib.Core.List.{List, [], _∷_}
 use mathlib.Core.Option.{Option, none, some}
@@ -58,7 +58,7 @@ count p rs = total (λ r. one (p r)) rs
 
 -- A mask is a 64-bit number in which bit i speaks of run i, bit 0 being the lowest. The mask that names the runs that pass a test:
 unfoldable pub mask : (Run → Bool) → List Run → ℕ
-mask p rs = total (λ r. elim (p r) [ true ↦ 2 ^ r .label | false ↦ 0 ]) rs
+mask p rs = total (λ r. one (p r) * 2 ^ r .label) rs
 
 unfoldable pub bit : ℕ → ℕ → ℕ
 bit m i = m / 2 ^ i % 2
