@@ -1,9 +1,12 @@
 pub mod Count
 pub mod Digits
+pub mod Events
+pub mod Fewest
 pub mod From
 pub mod Heads
 pub mod Instances
 pub mod Masks
 pub mod Searching
 pub mod Tests
+pub mod Truth
 pub mod Walking

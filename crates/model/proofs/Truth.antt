@@ -1,0 +1,146 @@
+-- The parts of a walk are true and cover the bins from its floor on. A gap names the runs whose head is not below v, and fewer than t heads are;
+-- an answer names the runs whose head it is. Assumes nothing.
+use Prim.Native.Nat.{ℕ, zero, suc, _+_, _-_, _≤_, _<_, _^_}
+use borrow.Author.Tests.{lt-ltb, le-ltb, le-leb, lt-leb, leb-true, eqb-true}
+use lib.Count.{ones}
+use lib.Dec.{ltb, leb, eqb}
+use lib.ListN.{length}
+use mathlib.Core.Bool.{Bool, true, false, not}
+use mathlib.Core.List.{List, [], _∷_, _++_, List·Memᴰ, List·Memᴰ·head, List·Memᴰ·tail, List·Memᴰ·not-nil, List·Memᴰ·cases-cons}
+use mathlib.Core.Logic.{⊎-elim}
+use mathlib.Core.Path.{_≡_, refl, sym, ap, _∙_, subst}
+use native.Mathlib.Omega.{arith}
+use Rattle.model.specs.Certificate.{Part, answer, gap, firstOf, lastOf, Covers, covered, covers, TrueGap, TrueAnswer, TruePart, gap-true, answer-true}
+use Rattle.model.specs.Compared.{partsOf}
+use Rattle.model.specs.Runs.{Run, lastBin, pastBin, count, mask, names}
+use Rattle.model.specs.Walk.{Event, head, headOf, wrote, searches}
+use Rattle.model.proofs.Count.{count-not}
+use Rattle.model.proofs.Events.{parts-wrote, parts-nil, parts-round}
+use Rattle.model.proofs.From.{from, rise-from, mem-from, from-mem, head-below-mem, head-mem}
+use Rattle.model.proofs.Heads.{below}
+use Rattle.model.proofs.Masks.{Labelled, labelled-nil, labelled-cons, below-only, mask-only, ones-mask, names-mask}
+use Rattle.model.proofs.Tests.{both, lt-or-le}
+use Rattle.model.proofs.Walking.{Rising, fromRun, at, at-length, head-from, past-last, equal, Ahead, gapAt, answerAt, Walked, over, stop, pass, hit, hit-here}
+
+-- runs that rise, labelled from 0 on, with a threshold that they can meet
+pub record Fit (rs : List Run) (t : ℕ) : Type 0 where
+  pub rising : Rising rs
+  pub labels : Labelled 0 rs
+  pub some : 0 < t
+  pub runs : t ≤ length rs
+
+pub labelled-at : (f : ℕ) {a : ℕ} {rs : List Run} → Labelled a rs → Labelled a (at f rs)
+unfolding at fromRun
+labelled-at f labelled-nil = labelled-nil
+labelled-at f (labelled-cons e l) = labelled-cons e (labelled-at f l)
+
+pub mem-at : (f : ℕ) {rs : List Run} {r : Run} → List·Memᴰ r rs → List·Memᴰ (fromRun f r) (at f rs)
+unfolding at
+mem-at f (List·Memᴰ·head e) = List·Memᴰ·head (ap (fromRun f) e)
+mem-at f (List·Memᴰ·tail m) = List·Memᴰ·tail (mem-at f m)
+
+-- what the mask of a test at a floor says of a run
+named : (p : Run → Bool) (f : ℕ) (rs : List Run) → Labelled 0 rs → (r : Run) → List·Memᴰ r rs → names (mask p (at f rs)) r ≡ p (fromRun f r)
+unfolding names fromRun
+named p f rs l r m = names-mask p 0 (at f rs) (labelled-at f l) (fromRun f r) (mem-at f m)
+
+pub only-at : (p : Run → Bool) (f : ℕ) (rs : List Run) → Labelled 0 rs → mask p (at f rs) < 2 ^ length rs
+only-at p f rs l = subst (λ (n : ℕ). mask p (at f rs) < 2 ^ n) (at-length f rs) (mask-only p (at f rs) (labelled-at f l))
+
+not-below : (h v : ℕ) → leb v h ≡ not (ltb h v)
+not-below h v =
+    ⊎-elim
+    (λ (q : h < v). rw (lt-ltb h v q, lt-leb v h q))
+    (λ (q : v ≤ h). rw (le-ltb h v q, le-leb v h q))
+    (lt-or-le h v)
+
+pub gap-is-true : (rs : List Run) (t f v last : ℕ) → Fit rs t → below v (at f rs) < t → last < v → TrueGap rs t f last (mask (λ r. leb v (head r)) (at f rs))
+unfolding below
+gap-is-true rs t f v last g few l =
+    let size = at-length f rs in
+    let split = count-not (λ r. ltb (head r) v) (λ r. leb v (head r)) (at f rs) (λ r m. not-below (head r) v) in
+    let num = ones-mask (λ r. leb v (head r)) (at f rs) (labelled-at f (g .labels)) in
+    record {
+      only = λ i e. below-only (mask (λ r. leb v (head r)) (at f rs)) (length rs) i (only-at _ f rs (g .labels)) e;
+      enough = omega arith;
+      misses = λ r m e x n h k.
+        let high : v ≤ head (fromRun f r) = leb-true v _ (sym (named (λ s. leb v (head s)) f rs (g .labels) r m) ∙ e) in
+        let low = head-below-mem (rise-from f (r .bins) (g .rising .each r m)) (mem-from f (r .bins) h n) in
+        let same = head-from f r in
+        omega arith
+    }
+
+pub answer-is-true : (rs : List Run) (t v : ℕ) → Fit rs t → v < pastBin → t ≤ equal v (at v rs)
+  → TrueAnswer rs t v (mask (λ r. eqb (head r) v) (at v rs))
+unfolding equal
+answer-is-true rs t v g b h =
+    let num = ones-mask (λ r. eqb (head r) v) (at v rs) (labelled-at v (g .labels)) in
+    record {
+      only = λ i e. below-only (mask (λ r. eqb (head r) v) (at v rs)) (length rs) i (only-at _ v rs (g .labels)) e;
+      enough = omega arith;
+      has = λ r m e.
+        let same : headOf (from v (r .bins)) ≡ v =
+              sym (head-from v r) ∙ eqb-true _ v (sym (named (λ s. eqb (head s) v) v rs (g .labels) r m) ∙ e) in
+        from-mem v (r .bins) (subst (λ (x : ℕ). List·Memᴰ x (from v (r .bins))) same (head-mem (from v (r .bins)) (omega arith)))
+    }
+
+-- a part of a walk: from where it starts, with what it needs to be true
+gap-part : (rs : List Run) (t f v last : ℕ) → Fit rs t → below v (at f rs) < t → last < v → TruePart rs t (gapAt rs f v last)
+unfolding gapAt
+gap-part rs t f v last g few l = gap-true (gap-is-true rs t f v last g few l)
+
+answer-part : (rs : List Run) (t v : ℕ) → Fit rs t → v < pastBin → t ≤ equal v (at v rs) → TruePart rs t (answerAt rs v)
+unfolding answerAt
+answer-part rs t v g b h = answer-true (answer-is-true rs t v g b h)
+
+cover-gap : (rs : List Run) (f v last : ℕ) (ps : List Part) → f ≤ last → Covers (suc last) ps → Covers f (gapAt rs f v last ∷ ps)
+unfolding gapAt firstOf lastOf
+cover-gap rs f v last ps h c = covers refl h c
+
+cover-answer : (rs : List Run) (v : ℕ) (ps : List Part) → Covers (suc v) ps → Covers v (answerAt rs v ∷ ps)
+unfolding answerAt firstOf lastOf
+cover-answer rs v ps c = let h : v ≤ v = omega arith in covers refl h c
+
+pub walk-covers : {rs : List Run} {t f : ℕ} {es : List Event} → Walked rs t f es → Covers f (partsOf es)
+walk-covers (over e) = rw parts-nil (covered e)
+walk-covers {rs} {f = f} (stop l h) =
+    let e = past-last in
+    rw (parts-wrote (gapAt rs f pastBin lastBin) [], parts-nil) (cover-gap rs f pastBin lastBin [] (omega arith) (covered (omega arith)))
+walk-covers {rs} {f = f} (pass {v = v} {es = es} l a q w) =
+    let e : suc (v - 1) ≡ v = omega arith in
+    rw (parts-round (gapAt rs f v (v - 1)) v (at f rs) es)
+    (cover-gap rs f v (v - 1) (partsOf es) (omega arith) (rw e (walk-covers w)))
+walk-covers {rs} {f = f} (hit {v = v} {es = es} l a q w) =
+    let e : suc (v - 1) ≡ v = omega arith in
+    rw (parts-round (gapAt rs f v (v - 1)) v (at f rs) (wrote (answerAt rs v) ∷ es), parts-wrote (answerAt rs v) es)
+    (cover-gap rs f v (v - 1) (answerAt rs v ∷ partsOf es) (omega arith) (rw e (cover-answer rs v (partsOf es) (walk-covers w))))
+walk-covers {rs} {f = f} (hit-here {es = es} a q w) =
+    rw (parts-wrote (answerAt rs f) es) (cover-answer rs f (partsOf es) (walk-covers w))
+
+pub walk-true : {rs : List Run} {t f : ℕ} {es : List Event} → Fit rs t → Walked rs t f es → (p : Part) → List·Memᴰ p (partsOf es) → TruePart rs t p
+walk-true g (over e) p m = absurd (List·Memᴰ·not-nil (rw parts-nil at m))
+walk-true {rs} {t} {f = f} g (stop l h) p m =
+    let e = past-last in
+    ⊎-elim
+    (λ (i : p ≡ gapAt rs f pastBin lastBin). rw i (gap-part rs t f pastBin lastBin g h (omega arith)))
+    (λ n. absurd (List·Memᴰ·not-nil n))
+    (List·Memᴰ·cases-cons (rw (parts-wrote (gapAt rs f pastBin lastBin) [], parts-nil) at m))
+walk-true {rs} {t} {f = f} g (pass {v = v} {es = es} l a q w) p m =
+    ⊎-elim
+    (λ (i : p ≡ gapAt rs f v (v - 1)). rw i (gap-part rs t f v (v - 1) g (a .few) (omega arith)))
+    (λ n. walk-true g w p n)
+    (List·Memᴰ·cases-cons (rw (parts-round (gapAt rs f v (v - 1)) v (at f rs) es) at m))
+walk-true {rs} {t} {f = f} g (hit {v = v} {es = es} l a q w) p m =
+    ⊎-elim
+    (λ (i : p ≡ gapAt rs f v (v - 1)). rw i (gap-part rs t f v (v - 1) g (a .few) (omega arith)))
+    (λ n. ⊎-elim
+      (λ (i : p ≡ answerAt rs v). rw i (answer-part rs t v g (a .bin) q))
+      (λ k. walk-true g w p k)
+      (List·Memᴰ·cases-cons n))
+    (List·Memᴰ·cases-cons
+      (rw (parts-round (gapAt rs f v (v - 1)) v (at f rs) (wrote (answerAt rs v) ∷ es), parts-wrote (answerAt rs v) es) at m))
+walk-true {rs} {t} {f = f} g (hit-here {es = es} a q w) p m =
+    ⊎-elim
+    (λ (i : p ≡ answerAt rs f). rw i (answer-part rs t f g (a .bin) q))
+    (λ k. walk-true g w p k)
+    (List·Memᴰ·cases-cons (rw (parts-wrote (answerAt rs f) es) at m))
