@@ -1,6 +1,9 @@
+pub mod Bounds
 pub mod Count
+pub mod Cutting
 pub mod Digits
 pub mod Events
+pub mod Exact
 pub mod Fewest
 pub mod From
 pub mod Heads

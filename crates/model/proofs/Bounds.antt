@@ -1,0 +1,242 @@
+-- Probes. One search makes fewer than 2 × digits probes, a round that searches writes a gap, and a round searches a run once at most; so in a run of n
+-- numbers a walk makes at most 2 × parts × digits n probes. Every probe is some run's, so their number is the sum over the runs.
+-- Assumes nothing.
+use Prim.Native.Nat.{ℕ, zero, suc, _+_, _-_, _*_, _≤_, _<_}
+use borrow.Author.Tests.{lt-ltb, le-ltb, ltb-true, eq-eqb, ne-eqb}
+use lib.Dec.{ltb, eqb}
+use lib.ListN.{length, replicate}
+use mathlib.Core.Bool.{Bool, true, false}
+use mathlib.Core.List.{List, [], _∷_, _++_, map, List·Memᴰ, List·Memᴰ·head, List·Memᴰ·tail, List·Memᴰ·not-nil, List·Memᴰ·cases-cons, List·Memᴰ·append-cases}
+use mathlib.Core.Logic.{⊎-elim, _≢_}
+use mathlib.Core.Path.{_≡_, refl, sym, ap, _∙_}
+use native.Mathlib.Nat.{mul-le-mul-right, mul-le-mul-left}
+use native.Mathlib.Omega.{arith}
+use Rattle.model.specs.Compared.{partsOf, cost, probeIn, probesIn, probe, probesOf, digits, boundIn, bound}
+use Rattle.model.specs.Runs.{Run, lastBin, pastBin, total, one}
+use Rattle.model.specs.Walk.{Event, sought, doubled, halved, wrote, headOf, head, seek, searchIn, searches}
+use Rattle.model.proofs.Count.{total-map, total-zero, total-cons, total-add, total-eq, total-le}
+use Rattle.model.proofs.Digits.{digits-mono}
+use Rattle.model.proofs.Events.{cost-append, cost-replicate, cost-searches, parts-wrote, parts-round}
+use Rattle.model.proofs.From.{Rise, from, rise-from, from-length, head-nil, head-cons}
+use Rattle.model.proofs.Masks.{Labelled, label-first, label-rest, label-least}
+use Rattle.model.proofs.Searching.{sought-right}
+use Rattle.model.proofs.Tests.{both, lt-or-le, eq-or-ne}
+use Rattle.model.proofs.Truth.{Fit, labelled-at}
+use Rattle.model.proofs.Walking.{Rising, rising-tail, fromRun, at, map-mem, gapAt, answerAt, Walked, over, stop, pass, hit, hit-here}
+
+-- a search that is made, and one that is not
+search-made : (v : ℕ) (r : Run) → head r < v
+  → searchIn v r ≡ sought (r .label) ∷ (replicate (seek v (r .bins) .doublings) (doubled (r .label)) ++ replicate (seek v (r .bins) .halvings) (halved (r .label)))
+unfolding searchIn
+search-made v r h = rw (lt-ltb (head r) v h, searchIn)
+
+search-none : (v : ℕ) (r : Run) → v ≤ head r → searchIn v r ≡ []
+unfolding searchIn
+search-none v r h = rw (le-ltb (head r) v h, searchIn)
+
+-- what a search costs, given what a probe in its run costs
+search-cost : (c : Event → ℕ) (v k : ℕ) (r : Run) → c (sought (r .label)) ≡ 0 → c (doubled (r .label)) ≡ k → c (halved (r .label)) ≡ k → head r < v
+  → cost c (searchIn v r) ≡ (seek v (r .bins) .doublings + seek v (r .bins) .halvings) * k
+unfolding cost
+search-cost c v k r e₀ e₁ e₂ h =
+    let d = seek v (r .bins) .doublings in
+    let n = seek v (r .bins) .halvings in
+    let a = cost-append c (replicate d (doubled (r .label))) (replicate n (halved (r .label))) in
+    let b₁ = cost-replicate c d (doubled (r .label)) ∙ ap (λ (x : ℕ). d * x) e₁ in
+    let b₂ = cost-replicate c n (halved (r .label)) ∙ ap (λ (x : ℕ). n * x) e₂ in
+    rw (search-made v r h) (omega arith)
+
+two-digits : (v : ℕ) {a : ℕ} (s : List ℕ) → Rise a s → v ≤ pastBin → headOf s < v → seek v s .doublings + seek v s .halvings ≤ 2 * digits (length s)
+two-digits v [] g b h = let e = head-nil in absurd (omega arith)
+two-digits v (x ∷ s) g b h =
+    let e = head-cons x s in
+    let k = sought-right v x s g (omega arith) in
+    omega (arith, k .doublings, k .halvings)
+
+-- the probes of a search in its own run, and in any other
+own-search : (v : ℕ) (r : Run) {a : ℕ} → Rise a (r .bins) → v ≤ pastBin → probesIn (r .label) (searchIn v r) ≤ 2 * digits (length (r .bins))
+unfolding probesIn probeIn cost head one
+own-search v r g b =
+    ⊎-elim
+    (λ (h : head r < v).
+      let e : one (eqb (r .label) (r .label)) ≡ 1 = ap one (eq-eqb (r .label) (r .label) refl) in
+      let c = search-cost (probeIn (r .label)) v 1 r refl e e h in
+      let k = two-digits v (r .bins) g b h in
+      omega arith)
+    (λ (h : v ≤ head r). rw (search-none v r h) (omega arith))
+    (lt-or-le (head r) v)
+
+other-search : (v i : ℕ) (r : Run) → i ≢ r .label → probesIn i (searchIn v r) ≡ 0
+unfolding probesIn probeIn cost one
+other-search v i r n =
+    ⊎-elim
+    (λ (h : head r < v).
+      let e : one (eqb i (r .label)) ≡ 0 = ap one (ne-eqb i (r .label) n) in
+      let c = search-cost (probeIn i) v 0 r refl e e h in
+      omega arith)
+    (λ (h : v ≤ head r). rw (search-none v r h))
+    (lt-or-le (head r) v)
+
+-- the probes in a run in one round
+from-search : (v f : ℕ) (r : Run) → Rise 0 (r .bins) → v ≤ pastBin → probesIn (r .label) (searchIn v (fromRun f r)) ≤ 2 * digits (length (r .bins))
+unfolding fromRun
+from-search v f r g b =
+    let k = own-search v (fromRun f r) (rise-from f (r .bins) g) b in
+    let d = digits-mono (from-length f (r .bins)) in
+    omega arith
+
+round-total : (v f : ℕ) {a : ℕ} (rs : List Run) → Labelled a rs → Rising rs → v ≤ pastBin → (r : Run) → List·Memᴰ r rs
+  → total (λ q. probesIn (r .label) (searchIn v (fromRun f q))) rs ≤ 2 * digits (length (r .bins))
+unfolding total fromRun
+round-total v f [] l g b r m = absurd (List·Memᴰ·not-nil m)
+round-total v f {a} (s ∷ rs) l g b r m =
+    let e = label-first l in
+    ⊎-elim
+    (λ (i : r ≡ s).
+      let j = ap (λ (x : Run). x .label) i in
+      let k = from-search v f r (g .each r m) b in
+      let same = ap (λ (x : Run). probesIn (r .label) (searchIn v (fromRun f x))) i in
+      let z = total-zero (λ q. probesIn (r .label) (searchIn v (fromRun f q))) rs
+                (λ q n. let w = label-least rs (label-rest l) q n in other-search v (r .label) (fromRun f q) (omega arith)) in
+      omega arith)
+    (λ (n : List·Memᴰ r rs).
+      let w = label-least rs (label-rest l) r n in
+      let z = other-search v (r .label) (fromRun f s) (omega arith) in
+      let k = round-total v f rs (label-rest l) (rising-tail g) b r n in
+      omega arith)
+    (List·Memᴰ·cases-cons m)
+
+round-probes : (v f : ℕ) {rs : List Run} {t : ℕ} → Fit rs t → v ≤ pastBin → (r : Run) → List·Memᴰ r rs
+  → probesIn (r .label) (searches v (at f rs)) ≤ 2 * digits (length (r .bins))
+unfolding probesIn at
+round-probes v f {rs} g b r m =
+    let c = cost-searches (probeIn (r .label)) v (at f rs) in
+    let d = total-map (λ q. cost (probeIn (r .label)) (searchIn v q)) (fromRun f) rs in
+    let k = round-total v f rs (g .labels) (g .rising) b r m in
+    omega arith
+
+-- In each run a walk makes at most 2 × digits probes for each part that it writes.
+pub walk-probes : {rs : List Run} {t f : ℕ} {es : List Event} → Fit rs t → Walked rs t f es → (r : Run) → List·Memᴰ r rs
+  → probesIn (r .label) es ≤ length (partsOf es) * (2 * digits (length (r .bins)))
+unfolding probesIn cost probeIn
+walk-probes g (over e) r m = omega arith
+walk-probes {rs} {f = f} g (stop l h) r m = omega arith
+walk-probes {rs} {f = f} g (pass {v = v} {es = es} l a q w) r m =
+    let i = walk-probes g w r m in
+    let b = a .bin in
+    let k = round-probes v f g (omega arith) r m in
+    let c = cost-append (probeIn (r .label)) (searches v (at f rs)) es in
+    rw (parts-round (gapAt rs f v (v - 1)) v (at f rs) es) (omega arith)
+walk-probes {rs} {f = f} g (hit {v = v} {es = es} l a q w) r m =
+    let i = walk-probes g w r m in
+    let b = a .bin in
+    let k = round-probes v f g (omega arith) r m in
+    let c = cost-append (probeIn (r .label)) (searches v (at f rs)) (wrote (answerAt rs v) ∷ es) in
+    rw (parts-round (gapAt rs f v (v - 1)) v (at f rs) (wrote (answerAt rs v) ∷ es), parts-wrote (answerAt rs v) es) (omega arith)
+walk-probes {rs} {f = f} g (hit-here {es = es} a q w) r m =
+    let i = walk-probes g w r m in
+    rw (parts-wrote (answerAt rs f) es) (omega arith)
+
+-- ---- the sum over the runs
+
+-- the cost of an event to all runs together is its cost as a probe
+pub record Owned (rs : List Run) (es : List Event) : Type 0 where
+  pub each : (e : Event) → List·Memᴰ e es → total (λ r. probeIn (r .label) e) rs ≡ probe e
+
+one-label : {a : ℕ} (rs : List Run) → Labelled a rs → (q : Run) → List·Memᴰ q rs → total (λ r. one (eqb (r .label) (q .label))) rs ≡ 1
+unfolding total one
+one-label [] l q m = absurd (List·Memᴰ·not-nil m)
+one-label (s ∷ rs) l q m =
+    let e = label-first l in
+    ⊎-elim
+    (λ (i : q ≡ s).
+      let j : s .label ≡ q .label = sym (ap (λ (x : Run). x .label) i) in
+      let z = total-zero (λ r. one (eqb (r .label) (q .label))) rs
+                (λ r n. let w = label-least rs (label-rest l) r n in ap one (ne-eqb (r .label) (q .label) (omega arith))) in
+      let k = ap one (eq-eqb (s .label) (q .label) j) in
+      omega arith)
+    (λ (n : List·Memᴰ q rs).
+      let w = label-least rs (label-rest l) q n in
+      let k = ap one (ne-eqb (s .label) (q .label) (omega arith)) in
+      let i = one-label rs (label-rest l) q n in
+      omega arith)
+    (List·Memᴰ·cases-cons m)
+
+replicate-mem : (n : ℕ) (x e : Event) → List·Memᴰ e (replicate n x) → e ≡ x
+replicate-mem zero x e m = absurd (List·Memᴰ·not-nil m)
+replicate-mem (suc n) x e m = ⊎-elim (λ i. i) (λ k. replicate-mem n x e k) (List·Memᴰ·cases-cons m)
+
+owned-event : (rs : List Run) (e e′ : Event) → e ≡ e′ → total (λ r. probeIn (r .label) e′) rs ≡ probe e′ → total (λ r. probeIn (r .label) e) rs ≡ probe e
+owned-event rs e e′ i h = rw i h
+
+owned-search : {a : ℕ} (rs : List Run) → Labelled a rs → (v : ℕ) (q : Run) → List·Memᴰ q rs → (e : Event) → List·Memᴰ e (searchIn v q)
+  → total (λ r. probeIn (r .label) e) rs ≡ probe e
+unfolding probeIn probe
+owned-search rs l v q m e n =
+    ⊎-elim
+    (λ (h : head q < v).
+      ⊎-elim
+      (λ (i : e ≡ sought (q .label)). owned-event rs e (sought (q .label)) i (total-zero _ rs (λ r k. refl)))
+      (λ k.
+        ⊎-elim
+        (λ o. owned-event rs e (doubled (q .label)) (replicate-mem (seek v (q .bins) .doublings) (doubled (q .label)) e o) (one-label rs l q m))
+        (λ o. owned-event rs e (halved (q .label)) (replicate-mem (seek v (q .bins) .halvings) (halved (q .label)) e o) (one-label rs l q m))
+        (List·Memᴰ·append-cases (replicate (seek v (q .bins) .doublings) (doubled (q .label))) k))
+      (List·Memᴰ·cases-cons (rw (search-made v q h) at n)))
+    (λ (h : v ≤ head q). absurd (List·Memᴰ·not-nil (rw (search-none v q h) at n)))
+    (lt-or-le (head q) v)
+
+searches-mem : (v : ℕ) (rs : List Run) (e : Event) → List·Memᴰ e (searches v rs) → (q : Run) × List·Memᴰ q rs × List·Memᴰ e (searchIn v q)
+unfolding searches
+searches-mem v [] e m = absurd (List·Memᴰ·not-nil m)
+searches-mem v (r ∷ rs) e m =
+    ⊎-elim
+    (λ n. (r, List·Memᴰ·head refl, n))
+    (λ n. let t = searches-mem v rs e n in (t .0, List·Memᴰ·tail (t .1), t .2))
+    (List·Memᴰ·append-cases (searchIn v r) m)
+
+labels-at : (f : ℕ) (e : Event) (rs : List Run) → total (λ r. probeIn (r .label) e) (at f rs) ≡ total (λ r. probeIn (r .label) e) rs
+unfolding at fromRun
+labels-at f e rs = total-map _ (fromRun f) rs
+
+owned-searches : {rs : List Run} {t : ℕ} (v f : ℕ) → Fit rs t → (e : Event) → List·Memᴰ e (searches v (at f rs))
+  → total (λ r. probeIn (r .label) e) rs ≡ probe e
+owned-searches {rs} v f g e m =
+    let s = searches-mem v (at f rs) e m in
+    sym (labels-at f e rs) ∙ owned-search (at f rs) (labelled-at f (g .labels)) v (s .0) (s .1) e (s .2)
+
+owned-part : (rs : List Run) (e : Event) (p : Rattle.model.specs.Certificate.Part) → e ≡ wrote p → total (λ r. probeIn (r .label) e) rs ≡ probe e
+unfolding probeIn probe
+owned-part rs e p i = owned-event rs e (wrote p) i (total-zero _ rs (λ r k. refl))
+
+walk-owned : {rs : List Run} {t f : ℕ} {es : List Event} → Fit rs t → Walked rs t f es → (e : Event) → List·Memᴰ e es
+  → total (λ r. probeIn (r .label) e) rs ≡ probe e
+walk-owned g (over i) e m = absurd (List·Memᴰ·not-nil m)
+walk-owned {rs} g (stop l h) e m = ⊎-elim (λ i. owned-part rs e _ i) (λ n. absurd (List·Memᴰ·not-nil n)) (List·Memᴰ·cases-cons m)
+walk-owned {rs} {f = f} g (pass {v = v} l a q w) e m =
+    ⊎-elim
+    (λ i. owned-part rs e _ i)
+    (λ n. ⊎-elim (λ k. owned-searches v f g e k) (λ k. walk-owned g w e k) (List·Memᴰ·append-cases (searches v (at f rs)) n))
+    (List·Memᴰ·cases-cons m)
+walk-owned {rs} {f = f} g (hit {v = v} l a q w) e m =
+    ⊎-elim
+    (λ i. owned-part rs e _ i)
+    (λ n.
+      ⊎-elim
+      (λ k. owned-searches v f g e k)
+      (λ k. ⊎-elim (λ i. owned-part rs e _ i) (λ o. walk-owned g w e o) (List·Memᴰ·cases-cons k))
+      (List·Memᴰ·append-cases (searches v (at f rs)) n))
+    (List·Memᴰ·cases-cons m)
+walk-owned {rs} g (hit-here a q w) e m = ⊎-elim (λ i. owned-part rs e _ i) (λ n. walk-owned g w e n) (List·Memᴰ·cases-cons m)
+
+pub owned : {rs : List Run} {t f : ℕ} {es : List Event} → Fit rs t → Walked rs t f es → Owned rs es
+owned g w = record { each = walk-owned g w }
+
+pub sum-probes : (rs : List Run) (es : List Event) → Owned rs es → total (λ r. probesIn (r .label) es) rs ≡ probesOf es
+unfolding probesIn probesOf cost
+sum-probes rs [] h = total-zero _ rs (λ r m. refl)
+sum-probes rs (e ∷ es) h =
+    let i = sum-probes rs es (record { each = λ d m. h .each d (List·Memᴰ·tail m) }) in
+    let a = total-add (λ r. probeIn (r .label) e) (λ r. cost (probeIn (r .label)) es) rs in
+    let k = h .each e (List·Memᴰ·head refl) in
+    omega arith

@@ -1,0 +1,124 @@
+-- A walk that a refusal ends is the first part of the whole walk: its parts are the first parts, it makes no more probes, and it is whole where no
+-- refusal ends it. An allowance that covers the whole walk's probes is never spent. Assumes nothing.
+use Prim.Native.Nat.{ℕ, zero, suc, _+_, _-_, _≤_, _<_}
+use borrow.Author.Tests.{eq-eqb, ne-eqb, eqb-true, eqb-false}
+use lib.Dec.{eqb, ltb}
+use lib.ListN.{length, take}
+use lib.Seq.{take-append-seam}
+use mathlib.Core.Bool.{Bool, true, false}
+use mathlib.Core.List.{List, [], _∷_, _++_, List·Memᴰ, List·Memᴰ·head, List·Memᴰ·tail, Memᴰ·append-left}
+use mathlib.Core.Logic.{⊎-elim, _≢_}
+use mathlib.Core.Path.{_≡_, refl, sym, ap, _∙_, subst}
+use native.Mathlib.Omega.{arith}
+use Rattle.model.specs.Certificate.{Part, answer, gap}
+use Rattle.model.specs.Compared.{partsOf, cost, probesIn, probe, probesOf}
+use Rattle.model.specs.Refusals.{Room, met, after, Ended, cut}
+use Rattle.model.specs.Walk.{Event, sought, doubled, halved, wrote}
+use Rattle.model.proofs.Events.{cost-append, parts-append}
+use Rattle.model.proofs.Tests.{both, eq-or-ne}
+
+-- the step equations of a cut
+pub cut-on : (room : Room) (e : Event) (es : List Event) → met room e ≡ 0
+  → cut room (e ∷ es) ≡ (let rest = cut (after room e) es in record { events = e ∷ rest .events; refused = rest .refused })
+unfolding cut
+cut-on room e es h = rw (h, cut)
+
+pub cut-here : (room : Room) (n : ℕ) (e : Event) (es : List Event) → met room e ≡ suc n → cut room (e ∷ es) ≡ record { events = []; refused = suc n }
+unfolding cut
+cut-here room n e es h = rw (h, cut)
+
+-- a refusal is met or none is
+pub met-or-not : (room : Room) (e : Event) {A : Type 0} → (met room e ≡ 0 → A) → ((n : ℕ) → met room e ≡ suc n → A) → A
+met-or-not room e {A} f g = go (met room e) refl
+  where
+    go : (n : ℕ) → met room e ≡ n → A
+    go zero h = f h
+    go (suc n) h = g n h
+
+-- what was done is the first part of the whole
+pub cut-first : (room : Room) (es : List Event) → (rest : List Event) × (es ≡ cut room es .events ++ rest)
+unfolding cut
+cut-first room [] = ([], refl)
+cut-first room (e ∷ es) =
+    let t = cut-first (after room e) es in
+    met-or-not room e
+    (λ h. (t .0, rw (cut-on room e es h) (ap (λ l. e ∷ l) (t .1))))
+    (λ n h. (e ∷ es, rw (cut-here room n e es h)))
+
+-- and all of it where no refusal ends it
+pub cut-whole : (room : Room) (es : List Event) → cut room es .refused ≡ 0 → cut room es .events ≡ es
+unfolding cut
+cut-whole room [] h = refl
+cut-whole room (e ∷ es) h =
+    met-or-not room e
+    (λ i. rw (cut-on room e es i) (ap (λ l. e ∷ l) (cut-whole (after room e) es (rw (cut-on room e es i) at h))))
+    (λ n i. let z : suc n ≡ 0 = rw (cut-here room n e es i) at h in absurd (omega arith))
+
+pub cut-parts : (room : Room) (es : List Event) → take (length (partsOf (cut room es .events))) (partsOf es) ≡ partsOf (cut room es .events)
+cut-parts room es =
+    let t = cut-first room es in
+    let d = cut room es .events in
+    ap (λ l. take (length (partsOf d)) l) (ap partsOf (t .1) ∙ parts-append d (t .0)) ∙ take-append-seam (partsOf d) (partsOf (t .0))
+
+pub cut-few : (room : Room) (es : List Event) → length (partsOf (cut room es .events)) ≤ length (partsOf es)
+cut-few room es =
+    let t = cut-first room es in
+    let d = cut room es .events in
+    let e = ap length (ap partsOf (t .1) ∙ parts-append d (t .0)) in
+    omega (arith, e, lib.ListN.length-append (partsOf d) (partsOf (t .0)))
+
+pub cut-cost : (c : Event → ℕ) (room : Room) (es : List Event) → cost c (cut room es .events) ≤ cost c es
+cut-cost c room es =
+    let t = cut-first room es in
+    let e = ap (cost c) (t .1) in
+    let a = cost-append c (cut room es .events) (t .0) in
+    omega arith
+
+pub cut-mem : (room : Room) (es : List Event) (e : Event) → List·Memᴰ e (cut room es .events) → List·Memᴰ e es
+cut-mem room es e m = let t = cut-first room es in subst (λ l. List·Memᴰ e l) (sym (t .1)) (Memᴰ·append-left (t .0) m)
+
+-- ---- the allowance
+
+-- a refusal at an event is 7 only where a probe is due and none is left
+met-seven : (room : Room) (e : Event) → met room e ≡ 7 → (probe e ≡ 1) × (room .probes ≡ 0)
+unfolding met probe
+met-seven room (sought i) h = absurd (omega arith)
+met-seven room (doubled i) h =
+    (refl, ⊎-elim (λ q. q) (λ (q : room .probes ≢ 0). let z : 0 ≡ 7 = rw (ne-eqb (room .probes) 0 q, met) at h in absurd (omega arith)) (eq-or-ne (room .probes) 0))
+met-seven room (halved i) h =
+    (refl, ⊎-elim (λ q. q) (λ (q : room .probes ≢ 0). let z : 0 ≡ 7 = rw (ne-eqb (room .probes) 0 q, met) at h in absurd (omega arith)) (eq-or-ne (room .probes) 0))
+met-seven room (wrote (answer v m)) h =
+    ⊎-elim
+    (λ (q : eqb (room .answers) 0 ≡ true). let z : 5 ≡ 7 = rw (q, met) at h in absurd (omega arith))
+    (λ (q : eqb (room .answers) 0 ≡ false).
+      ⊎-elim
+      (λ (o : ltb (room .bytes) 15 ≡ true). let z : 6 ≡ 7 = rw (q, met, o) at h in absurd (omega arith))
+      (λ (o : ltb (room .bytes) 15 ≡ false). let z : 0 ≡ 7 = rw (q, met, o) at h in absurd (omega arith))
+      (both (ltb (room .bytes) 15)))
+    (both (eqb (room .answers) 0))
+met-seven room (wrote (gap f l m)) h =
+    ⊎-elim
+    (λ (o : ltb (room .bytes) 19 ≡ true). let z : 6 ≡ 7 = rw (o, met) at h in absurd (omega arith))
+    (λ (o : ltb (room .bytes) 19 ≡ false). let z : 0 ≡ 7 = rw (o, met) at h in absurd (omega arith))
+    (both (ltb (room .bytes) 19))
+
+after-probes : (room : Room) (e : Event) → after room e .probes ≡ room .probes - probe e
+unfolding after probe
+after-probes room (sought i) = omega arith
+after-probes room (doubled i) = refl
+after-probes room (halved i) = refl
+after-probes room (wrote (answer v m)) = omega arith
+after-probes room (wrote (gap f l m)) = omega arith
+
+pub cut-enough : (room : Room) (es : List Event) → probesOf es ≤ room .probes → cut room es .refused ≢ 7
+unfolding probesOf cost cut
+cut-enough room [] h e = omega arith
+cut-enough room (x ∷ es) h e =
+    met-or-not room x
+    (λ i.
+      let a = after-probes room x in
+      cut-enough (after room x) es (omega arith) (rw (cut-on room x es i) at e))
+    (λ n i.
+      let z : suc n ≡ 7 = rw (cut-here room n x es i) at e in
+      let s = met-seven room x (i ∙ z) in
+      absurd (omega arith))
