@@ -26,7 +26,7 @@ use Rattle.model.proofs.Walking.{Rising, rising-tail, fromRun, at, map-
 
 -- a search that is made, and one that is not
 search-made : (v : ℕ) (r : Run) → head r < v
-  → searchIn v r ≡ sought (r .label) ∷ (replicate (seek v (r .bins) .doublings) (doubled (r .label)) ++ replicate (seek v (r .bins) .halvings) (halved (r .label)))
+    → searchIn v r ≡ sought (r .label) ∷ (replicate (seek v (r .bins) .doublings) (doubled (r .label)) ++ replicate (seek v (r .bins) .halvings) (halved (r .label)))
 unfolding searchIn
 search-made v r h = rw (lt-ltb (head r) v h, searchIn)
 
@@ -36,7 +36,7 @@ search-none v r h = rw (le-ltb (head r) v h, searchIn)
 
 -- what a search costs, given what a probe in its run costs
 search-cost : (c : Event → ℕ) (v k : ℕ) (r : Run) → c (sought (r .label)) ≡ 0 → c (doubled (r .label)) ≡ k → c (halved (r .label)) ≡ k → head r < v
-  → cost c (searchIn v r) ≡ (seek v (r .bins) .doublings + seek v (r .bins) .halvings) * k
+    → cost c (searchIn v r) ≡ (seek v (r .bins) .doublings + seek v (r .bins) .halvings) * k
 unfolding cost
 search-cost c v k r e₀ e₁ e₂ h =
     let d = seek v (r .bins) .doublings in
@@ -59,10 +59,10 @@ unfolding probesIn probeIn cost head one
 own-search v r g b =
     ⊎-elim
     (λ (h : head r < v).
-      let e : one (eqb (r .label) (r .label)) ≡ 1 = ap one (eq-eqb (r .label) (r .label) refl) in
-      let c = search-cost (probeIn (r .label)) v 1 r refl e e h in
-      let k = two-digits v (r .bins) g b h in
-      omega arith)
+    let e : one (eqb (r .label) (r .label)) ≡ 1 = ap one (eq-eqb (r .label) (r .label) refl) in
+    let c = search-cost (probeIn (r .label)) v 1 r refl e e h in
+    let k = two-digits v (r .bins) g b h in
+    omega arith)
     (λ (h : v ≤ head r). rw (search-none v r h) (omega arith))
     (lt-or-le (head r) v)
 
@@ -71,9 +71,9 @@ unfolding probesIn probeIn cost one
 other-search v i r n =
     ⊎-elim
     (λ (h : head r < v).
-      let e : one (eqb i (r .label)) ≡ 0 = ap one (ne-eqb i (r .label) n) in
-      let c = search-cost (probeIn i) v 0 r refl e e h in
-      omega arith)
+    let e : one (eqb i (r .label)) ≡ 0 = ap one (ne-eqb i (r .label) n) in
+    let c = search-cost (probeIn i) v 0 r refl e e h in
+    omega arith)
     (λ (h : v ≤ head r). rw (search-none v r h))
     (lt-or-le (head r) v)
 
@@ -86,28 +86,28 @@ from-search v f r g b =
     omega arith
 
 round-total : (v f : ℕ) {a : ℕ} (rs : List Run) → Labelled a rs → Rising rs → v ≤ pastBin → (r : Run) → List·Memᴰ r rs
-  → total (λ q. probesIn (r .label) (searchIn v (fromRun f q))) rs ≤ 2 * digits (length (r .bins))
+    → total (λ q. probesIn (r .label) (searchIn v (fromRun f q))) rs ≤ 2 * digits (length (r .bins))
 unfolding total fromRun
 round-total v f [] l g b r m = absurd (List·Memᴰ·not-nil m)
 round-total v f {a} (s ∷ rs) l g b r m =
     let e = label-first l in
     ⊎-elim
     (λ (i : r ≡ s).
-      let j = ap (λ (x : Run). x .label) i in
-      let k = from-search v f r (g .each r m) b in
-      let same = ap (λ (x : Run). probesIn (r .label) (searchIn v (fromRun f x))) i in
-      let z = total-zero (λ q. probesIn (r .label) (searchIn v (fromRun f q))) rs
-                (λ q n. let w = label-least rs (label-rest l) q n in other-search v (r .label) (fromRun f q) (omega arith)) in
-      omega arith)
+    let j = ap (λ (x : Run). x .label) i in
+    let k = from-search v f r (g .each r m) b in
+    let same = ap (λ (x : Run). probesIn (r .label) (searchIn v (fromRun f x))) i in
+    let z = total-zero (λ q. probesIn (r .label) (searchIn v (fromRun f q))) rs
+    (λ q n. let w = label-least rs (label-rest l) q n in other-search v (r .label) (fromRun f q) (omega arith)) in
+    omega arith)
     (λ (n : List·Memᴰ r rs).
-      let w = label-least rs (label-rest l) r n in
-      let z = other-search v (r .label) (fromRun f s) (omega arith) in
-      let k = round-total v f rs (label-rest l) (rising-tail g) b r n in
-      omega arith)
+    let w = label-least rs (label-rest l) r n in
+    let z = other-search v (r .label) (fromRun f s) (omega arith) in
+    let k = round-total v f rs (label-rest l) (rising-tail g) b r n in
+    omega arith)
     (List·Memᴰ·cases-cons m)
 
 round-probes : (v f : ℕ) {rs : List Run} {t : ℕ} → Fit rs t → v ≤ pastBin → (r : Run) → List·Memᴰ r rs
-  → probesIn (r .label) (searches v (at f rs)) ≤ 2 * digits (length (r .bins))
+    → probesIn (r .label) (searches v (at f rs)) ≤ 2 * digits (length (r .bins))
 unfolding probesIn at
 round-probes v f {rs} g b r m =
     let c = cost-searches (probeIn (r .label)) v (at f rs) in
@@ -117,7 +117,7 @@ round-probes v f {rs} g b r m =
 
 -- In each run a walk makes at most 2 × digits probes for each part that it writes.
 pub walk-probes : {rs : List Run} {t f : ℕ} {es : List Event} → Fit rs t → Walked rs t f es → (r : Run) → List·Memᴰ r rs
-  → probesIn (r .label) es ≤ length (partsOf es) * (2 * digits (length (r .bins)))
+    → probesIn (r .label) es ≤ length (partsOf es) * (2 * digits (length (r .bins)))
 unfolding probesIn cost probeIn
 walk-probes g (over e) r m = omega arith
 walk-probes {rs} {f = f} g (stop l h) r m = omega arith
@@ -150,16 +150,16 @@ one-label (s ∷ rs) l q m =
     let e = label-first l in
     ⊎-elim
     (λ (i : q ≡ s).
-      let j : s .label ≡ q .label = sym (ap (λ (x : Run). x .label) i) in
-      let z = total-zero (λ r. one (eqb (r .label) (q .label))) rs
-                (λ r n. let w = label-least rs (label-rest l) r n in ap one (ne-eqb (r .label) (q .label) (omega arith))) in
-      let k = ap one (eq-eqb (s .label) (q .label) j) in
-      omega arith)
+    let j : s .label ≡ q .label = sym (ap (λ (x : Run). x .label) i) in
+    let z = total-zero (λ r. one (eqb (r .label) (q .label))) rs
+    (λ r n. let w = label-least rs (label-rest l) r n in ap one (ne-eqb (r .label) (q .label) (omega arith))) in
+    let k = ap one (eq-eqb (s .label) (q .label) j) in
+    omega arith)
     (λ (n : List·Memᴰ q rs).
-      let w = label-least rs (label-rest l) q n in
-      let k = ap one (ne-eqb (s .label) (q .label) (omega arith)) in
-      let i = one-label rs (label-rest l) q n in
-      omega arith)
+    let w = label-least rs (label-rest l) q n in
+    let k = ap one (ne-eqb (s .label) (q .label) (omega arith)) in
+    let i = one-label rs (label-rest l) q n in
+    omega arith)
     (List·Memᴰ·cases-cons m)
 
 replicate-mem : (n : ℕ) (x e : Event) → List·Memᴰ e (replicate n x) → e ≡ x
@@ -170,19 +170,19 @@ owned-event : (rs : List Run) (e e′ : Event) → e ≡ e′ → total (λ r. p
 owned-event rs e e′ i h = rw i h
 
 owned-search : {a : ℕ} (rs : List Run) → Labelled a rs → (v : ℕ) (q : Run) → List·Memᴰ q rs → (e : Event) → List·Memᴰ e (searchIn v q)
-  → total (λ r. probeIn (r .label) e) rs ≡ probe e
+    → total (λ r. probeIn (r .label) e) rs ≡ probe e
 unfolding probeIn probe
 owned-search rs l v q m e n =
     ⊎-elim
     (λ (h : head q < v).
-      ⊎-elim
-      (λ (i : e ≡ sought (q .label)). owned-event rs e (sought (q .label)) i (total-zero _ rs (λ r k. refl)))
-      (λ k.
-        ⊎-elim
-        (λ o. owned-event rs e (doubled (q .label)) (replicate-mem (seek v (q .bins) .doublings) (doubled (q .label)) e o) (one-label rs l q m))
-        (λ o. owned-event rs e (halved (q .label)) (replicate-mem (seek v (q .bins) .halvings) (halved (q .label)) e o) (one-label rs l q m))
-        (List·Memᴰ·append-cases (replicate (seek v (q .bins) .doublings) (doubled (q .label))) k))
-      (List·Memᴰ·cases-cons (rw (search-made v q h) at n)))
+    ⊎-elim
+    (λ (i : e ≡ sought (q .label)). owned-event rs e (sought (q .label)) i (total-zero _ rs (λ r k. refl)))
+    (λ k.
+    ⊎-elim
+    (λ o. owned-event rs e (doubled (q .label)) (replicate-mem (seek v (q .bins) .doublings) (doubled (q .label)) e o) (one-label rs l q m))
+    (λ o. owned-event rs e (halved (q .label)) (replicate-mem (seek v (q .bins) .halvings) (halved (q .label)) e o) (one-label rs l q m))
+    (List·Memᴰ·append-cases (replicate (seek v (q .bins) .doublings) (doubled (q .label))) k))
+    (List·Memᴰ·cases-cons (rw (search-made v q h) at n)))
     (λ (h : v ≤ head q). absurd (List·Memᴰ·not-nil (rw (search-none v q h) at n)))
     (lt-or-le (head q) v)
 
@@ -200,7 +200,7 @@ unfolding at fromRun
 labels-at f e rs = total-map _ (fromRun f) rs
 
 owned-searches : {rs : List Run} {t : ℕ} (v f : ℕ) → Fit rs t → (e : Event) → List·Memᴰ e (searches v (at f rs))
-  → total (λ r. probeIn (r .label) e) rs ≡ probe e
+    → total (λ r. probeIn (r .label) e) rs ≡ probe e
 owned-searches {rs} v f g e m =
     let s = searches-mem v (at f rs) e m in
     sym (labels-at f e rs) ∙ owned-search (at f rs) (labelled-at f (g .labels)) v (s .0) (s .1) e (s .2)
@@ -210,7 +210,7 @@ unfolding probeIn probe
 owned-part rs e p i = owned-event rs e (wrote p) i (total-zero _ rs (λ r k. refl))
 
 walk-owned : {rs : List Run} {t f : ℕ} {es : List Event} → Fit rs t → Walked rs t f es → (e : Event) → List·Memᴰ e es
-  → total (λ r. probeIn (r .label) e) rs ≡ probe e
+    → total (λ r. probeIn (r .label) e) rs ≡ probe e
 walk-owned g (over i) e m = absurd (List·Memᴰ·not-nil m)
 walk-owned {rs} g (stop l h) e m = ⊎-elim (λ i. owned-part rs e _ i) (λ n. absurd (List·Memᴰ·not-nil n)) (List·Memᴰ·cases-cons m)
 walk-owned {rs} {f = f} g (pass {v = v} l a q w) e m =
@@ -222,10 +222,10 @@ walk-owned {rs} {f = f} g (hit {v = v} l a q w) e m =
     ⊎-elim
     (λ i. owned-part rs e _ i)
     (λ n.
-      ⊎-elim
-      (λ k. owned-searches v f g e k)
-      (λ k. ⊎-elim (λ i. owned-part rs e _ i) (λ o. walk-owned g w e o) (List·Memᴰ·cases-cons k))
-      (List·Memᴰ·append-cases (searches v (at f rs)) n))
+    ⊎-elim
+    (λ k. owned-searches v f g e k)
+    (λ k. ⊎-elim (λ i. owned-part rs e _ i) (λ o. walk-owned g w e o) (List·Memᴰ·cases-cons k))
+    (List·Memᴰ·append-cases (searches v (at f rs)) n))
     (List·Memᴰ·cases-cons m)
 walk-owned {rs} g (hit-here a q w) e m = ⊎-elim (λ i. owned-part rs e _ i) (λ n. walk-owned g w e n) (List·Memᴰ·cases-cons m)
 

@@ -81,7 +81,7 @@ one-sum false false h = omega arith
 
 -- two tests that no run passes both of
 pub count-disjoint : (p q : Run → Bool) (rs : List Run) → ((r : Run) → List·Memᴰ r rs → p r ≡ true → q r ≡ false)
-  → count p rs + count q rs ≤ length rs
+    → count p rs + count q rs ≤ length rs
 unfolding count total
 count-disjoint p q [] h = omega arith
 count-disjoint p q (r ∷ rs) h =

@@ -19,7 +19,7 @@ use Rattle.model.proofs.Tests.{both, eq-or-ne}
 
 -- the step equations of a cut
 pub cut-on : (room : Room) (e : Event) (es : List Event) → met room e ≡ 0
-  → cut room (e ∷ es) ≡ (let rest = cut (after room e) es in record { events = e ∷ rest .events; refused = rest .refused })
+    → cut room (e ∷ es) ≡ (let rest = cut (after room e) es in record { events = e ∷ rest .events; refused = rest .refused })
 unfolding cut
 cut-on room e es h = rw (h, cut)
 
@@ -91,10 +91,10 @@ met-seven room (wrote (answer v m)) h =
     ⊎-elim
     (λ (q : eqb (room .answers) 0 ≡ true). let z : 5 ≡ 7 = rw (q, met) at h in absurd (omega arith))
     (λ (q : eqb (room .answers) 0 ≡ false).
-      ⊎-elim
-      (λ (o : ltb (room .bytes) 15 ≡ true). let z : 6 ≡ 7 = rw (q, met, o) at h in absurd (omega arith))
-      (λ (o : ltb (room .bytes) 15 ≡ false). let z : 0 ≡ 7 = rw (q, met, o) at h in absurd (omega arith))
-      (both (ltb (room .bytes) 15)))
+    ⊎-elim
+    (λ (o : ltb (room .bytes) 15 ≡ true). let z : 6 ≡ 7 = rw (q, met, o) at h in absurd (omega arith))
+    (λ (o : ltb (room .bytes) 15 ≡ false). let z : 0 ≡ 7 = rw (q, met, o) at h in absurd (omega arith))
+    (both (ltb (room .bytes) 15)))
     (both (eqb (room .answers) 0))
 met-seven room (wrote (gap f l m)) h =
     ⊎-elim
@@ -116,9 +116,9 @@ cut-enough room [] h e = omega arith
 cut-enough room (x ∷ es) h e =
     met-or-not room x
     (λ i.
-      let a = after-probes room x in
-      cut-enough (after room x) es (omega arith) (rw (cut-on room x es i) at e))
+    let a = after-probes room x in
+    cut-enough (after room x) es (omega arith) (rw (cut-on room x es i) at e))
     (λ n i.
-      let z : suc n ≡ 7 = rw (cut-here room n x es i) at e in
-      let s = met-seven room x (i ∙ z) in
-      absurd (omega arith))
+    let z : suc n ≡ 7 = rw (cut-here room n x es i) at e in
+    let s = met-seven room x (i ∙ z) in
+    absurd (omega arith))

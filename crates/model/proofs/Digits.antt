@@ -23,7 +23,7 @@ from-above (suc fuel) b n h =
     ⊎-elim
     (λ (p : n < 2 ^ b). rw (lt-ltb n (2 ^ b) p, digitsFrom) p)
     (λ (p : 2 ^ b ≤ n). rw (le-ltb n (2 ^ b) p, digitsFrom)
-      (from-above fuel (suc b) n (subst (λ (x : ℕ). n < 2 ^ x) (omega arith) h)))
+    (from-above fuel (suc b) n (subst (λ (x : ℕ). n < 2 ^ x) (omega arith) h)))
     (lt-or-le n (2 ^ b))
 
 from-least : (fuel b n c : ℕ) → b ≤ c → n < 2 ^ c → digitsFrom fuel b n ≤ c
@@ -33,8 +33,8 @@ from-least (suc fuel) b n c l h =
     ⊎-elim
     (λ (p : n < 2 ^ b). rw (lt-ltb n (2 ^ b) p, digitsFrom) l)
     (λ (p : 2 ^ b ≤ n). rw (le-ltb n (2 ^ b) p, digitsFrom)
-      (from-least fuel (suc b) n c
-        (⊎-elim (λ q. q) (λ (q : c ≤ b). let m = pow-mono q in absurd (omega arith)) (lt-or-le b c)) h))
+    (from-least fuel (suc b) n c
+    (⊎-elim (λ q. q) (λ (q : c ≤ b). let m = pow-mono q in absurd (omega arith)) (lt-or-le b c)) h))
     (lt-or-le n (2 ^ b))
 
 pub digits-above : (n : ℕ) → n < 2 ^ digits n

@@ -54,9 +54,9 @@ unfolding searchIn partsOf
 no-parts-search v r =
     ⊎-elim
     (λ (e : ltb (head r) v ≡ true).
-      rw (e, searchIn)
-      (parts-append (replicate (seek v (r .bins) .doublings) (doubled (r .label))) (replicate (seek v (r .bins) .halvings) (halved (r .label)))
-        ∙ rw (no-parts-doubled (seek v (r .bins) .doublings) (r .label), no-parts-halved (seek v (r .bins) .halvings) (r .label))))
+    rw (e, searchIn)
+    (parts-append (replicate (seek v (r .bins) .doublings) (doubled (r .label))) (replicate (seek v (r .bins) .halvings) (halved (r .label)))
+    ∙ rw (no-parts-doubled (seek v (r .bins) .doublings) (r .label), no-parts-halved (seek v (r .bins) .halvings) (r .label))))
     (λ (e : ltb (head r) v ≡ false). rw (e, searchIn))
     (both (ltb (head r) v))
 

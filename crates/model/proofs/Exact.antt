@@ -46,7 +46,7 @@ answer-held {rs} {v = v} {m = m} g p =
 
 -- an answer is held by t runs
 answers-held : {rs : List Run} {t : ℕ} → Fit rs t → (ps : List Part) → ((p : Part) → List·Memᴰ p ps → TruePart rs t p) → (x : ℕ)
-  → List·Memᴰ x (answersOf ps) → t ≤ held x rs
+    → List·Memᴰ x (answersOf ps) → t ≤ held x rs
 unfolding answersOf
 answers-held g [] h x m = absurd (List·Memᴰ·not-nil m)
 answers-held {rs} {t} g (answer v n ∷ ps) h x m =
@@ -58,6 +58,7 @@ answers-held {rs} {t} g (answer v n ∷ ps) h x m =
     inner : {p : Part} → TruePart rs t p → p ≡ answer v n → t ≤ held v rs
     inner (gap-true q) e = absurd (let z : _≡_ {A = ℕ} 0 1 = cc in omega arith)
     inner (answer-true {v = u} {m = w} q) e = let i : u ≡ v = cc in rw (← i) (answer-held g q)
+
     of-part : TruePart rs t (answer v n) → t ≤ held v rs
     of-part q = inner q refl
 answers-held g (gap f l n ∷ ps) h x m = answers-held g ps (λ q k. h q (List·Memᴰ·tail k)) x m
@@ -69,13 +70,13 @@ tail-answers (answer v n) ps x m = List·Memᴰ·tail m
 tail-answers (gap f l n) ps x m = m
 
 here-answers : {rs : List Run} {t : ℕ} {p : Part} (ps : List Part) (x : ℕ) → Fit rs t → TruePart rs t p → firstOf p ≤ x → x ≤ lastOf p → t ≤ held x rs
-  → List·Memᴰ x (answersOf (p ∷ ps))
+    → List·Memᴰ x (answersOf (p ∷ ps))
 unfolding answersOf firstOf lastOf
 here-answers ps x g (gap-true q) i j h = let n = gap-few x g q i j in absurd (omega arith)
 here-answers ps x g (answer-true {v = v} q) i j h = let e : x ≡ v = omega arith in List·Memᴰ·head e
 
 held-answers : {rs : List Run} {t : ℕ} → Fit rs t → (b : ℕ) (ps : List Part) → Covers b ps → ((p : Part) → List·Memᴰ p ps → TruePart rs t p) → (x : ℕ)
-  → b ≤ x → x < pastBin → t ≤ held x rs → List·Memᴰ x (answersOf ps)
+    → b ≤ x → x < pastBin → t ≤ held x rs → List·Memᴰ x (answersOf ps)
 held-answers g b [] c h x l u k = let e = covers-nil c in absurd (omega arith)
 held-answers g b (p ∷ ps) c h x l u k =
     let e = covers-first c in
@@ -112,13 +113,14 @@ pub exact : {rs : List Run} {t : ℕ} {ps : List Part} → Fit rs t → TrueCert
 unfolding held
 exact {rs} {t} {ps} g c =
     record {
-      all-held = λ x.
-        (answers-held g ps (c .each) x,
-         λ h.
-           let p = g .some in
-           let s = count-some (λ r. holds x (r .bins)) rs (omega arith) in
-           let m = holds-mem x (s .0 .bins) (s .2) in
-           let e = first-least in
-           held-answers g firstBin ps (c .covering) (c .each) x (omega arith) (rise-bin (g .rising .each (s .0) (s .1)) m) h);
-      rising = answers-rise firstBin ps (c .covering)
+      all-held = λ x. (
+        answers-held g ps (c .each) x,
+        λ h.
+            let p = g .some in
+            let s = count-some (λ r. holds x (r .bins)) rs (omega arith) in
+            let m = holds-mem x (s .0 .bins) (s .2) in
+            let e = first-least in
+            held-answers g firstBin ps (c .covering) (c .each) x (omega arith) (rise-bin (g .rising .each (s .0) (s .1)) m) h,
+      );
+      rising = answers-rise firstBin ps (c .covering);
     }

@@ -57,21 +57,21 @@ gap-ends {rs} {t} {a} {l} {m} f v g p i j b e =
     ⊎-elim
     (λ (q : l < v). q)
     (λ (q : v ≤ l).
-      let n = gap-names g p in
-      let c = count-map (λ r. leb (head r) v) (fromRun f) rs in
-      let d = count-disjoint (λ r. leb (head (fromRun f r)) v) (names m) rs (λ r k h. unnamed r k h q) in
-      absurd (omega arith))
+    let n = gap-names g p in
+    let c = count-map (λ r. leb (head r) v) (fromRun f) rs in
+    let d = count-disjoint (λ r. leb (head (fromRun f r)) v) (names m) rs (λ r k h. unnamed r k h q) in
+    absurd (omega arith))
     (lt-or-le l v)
   where
     unnamed : (r : Run) → List·Memᴰ r rs → leb (head (fromRun f r)) v ≡ true → v ≤ l → names m r ≡ false
     unnamed r k h q =
         ⊎-elim
         (λ (y : names m r ≡ true).
-          let s = head-from f r in
-          let u : headOf (from f (r .bins)) ≤ v = omega (arith, leb-true _ v h) in
-          let w = head-mem (from f (r .bins)) (omega arith) in
-          let z = head-least (rise-from f (r .bins) (g .rising .each r k)) (omega arith) in
-          absurd (p .misses r k y (headOf (from f (r .bins))) (from-mem f (r .bins) w) (omega arith) (omega arith)))
+        let s = head-from f r in
+        let u : headOf (from f (r .bins)) ≤ v = omega (arith, leb-true _ v h) in
+        let w = head-mem (from f (r .bins)) (omega arith) in
+        let z = head-least (rise-from f (r .bins) (g .rising .each r k)) (omega arith) in
+        absurd (p .misses r k y (headOf (from f (r .bins))) (from-mem f (r .bins) w) (omega arith) (omega arith)))
         (λ (y : names m r ≡ false). y)
         (both (names m r))
 
@@ -83,24 +83,24 @@ enough-here rs v t h =
 
 -- So a true part that starts at or below f does not end past v, and not at v where f is below v.
 part-ends : {rs : List Run} {t f v : ℕ} {p : Part} → Fit rs t → TruePart rs t p → firstOf p ≤ f → f < v → v < pastBin → t ≤ atMost v (at f rs)
-  → lastOf p < v
+    → lastOf p < v
 unfolding firstOf lastOf
 part-ends {f = f} {v = v} g (gap-true h) i j b e = gap-ends f v g h i (omega arith) b e
 part-ends g (answer-true h) i j b e = omega arith
 
 part-ends-here : {rs : List Run} {t v : ℕ} {p : Part} → Fit rs t → TruePart rs t p → firstOf p ≤ v → v < pastBin → t ≤ equal v (at v rs)
-  → lastOf p ≤ v
+    → lastOf p ≤ v
 unfolding firstOf lastOf
 part-ends-here {rs} {t} {v} g (gap-true h) i b e = let l = gap-ends v v g h i (omega arith) b (enough-here rs v t e) in omega arith
 part-ends-here g (answer-true h) i b e = i
 
 -- the parts of the rest of another certificate
 rest-true : {rs : List Run} {t : ℕ} {p : Part} {ps : List Part} → ((q : Part) → List·Memᴰ q (p ∷ ps) → TruePart rs t q)
-  → (q : Part) → List·Memᴰ q ps → TruePart rs t q
+    → (q : Part) → List·Memᴰ q ps → TruePart rs t q
 rest-true h q m = h q (List·Memᴰ·tail m)
 
 pub fewest : {rs : List Run} {t f : ℕ} {es : List Event} → Fit rs t → Walked rs t f es → (a : ℕ) (ps : List Part) → a ≤ f → Covers a ps
-  → ((p : Part) → List·Memᴰ p ps → TruePart rs t p) → length (partsOf es) ≤ length ps
+    → ((p : Part) → List·Memᴰ p ps → TruePart rs t p) → length (partsOf es) ≤ length ps
 fewest g (over e) a ps i c h = rw parts-nil (omega arith)
 fewest g (stop l q) a [] i c h = let e = covers-nil c in absurd (omega arith)
 fewest {rs} {f = f} g (stop l q) a (p ∷ ps) i c h =

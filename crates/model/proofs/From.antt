@@ -144,7 +144,7 @@ mem-from v [] h m = absurd (List·Memᴰ·not-nil m)
 mem-from v {x} (y ∷ s) h m =
     ⊎-elim
     (λ p. rw (from-pass v y s p)
-      (⊎-elim (λ e. absurd (omega arith)) (λ n. mem-from v s h n) (List·Memᴰ·cases-cons m)))
+    (⊎-elim (λ e. absurd (omega arith)) (λ n. mem-from v s h n) (List·Memᴰ·cases-cons m)))
     (λ p. rw (from-stop v y s p) m)
     (lt-or-le y v)
 
@@ -213,5 +213,5 @@ mem-holds x (y ∷ s) m =
     ⊎-elim
     (λ q. rw (eq-eqb x y q, holds))
     (λ q. rw (ne-eqb x y q, holds)
-      (⊎-elim (λ e. absurd (q e)) (λ n. mem-holds x s n) (List·Memᴰ·cases-cons m)))
+    (⊎-elim (λ e. absurd (q e)) (λ n. mem-holds x s n) (List·Memᴰ·cases-cons m)))
     (eq-or-ne x y)

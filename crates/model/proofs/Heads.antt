@@ -33,11 +33,11 @@ module _ (p : ℕ → Bool) where
   least-passes e (r ∷ rs) =
       ⊎-elim
       (λ (q : p (head r) ≡ true).
-        rw (q, leastHead)
-        (⊎-elim
-          (λ (l : head r < leastHead p rs). let m : head r ≤ leastHead p rs = omega arith in rw (min-eq-left m) q)
-          (λ (l : leastHead p rs ≤ head r). rw (min-eq-right l) (least-passes e rs))
-          (lt-or-le (head r) (leastHead p rs))))
+      rw (q, leastHead)
+      (⊎-elim
+      (λ (l : head r < leastHead p rs). let m : head r ≤ leastHead p rs = omega arith in rw (min-eq-left m) q)
+      (λ (l : leastHead p rs ≤ head r). rw (min-eq-right l) (least-passes e rs))
+      (lt-or-le (head r) (leastHead p rs))))
       (λ (q : p (head r) ≡ false). rw (q, leastHead) (least-passes e rs))
       (both (p (head r)))
 
@@ -47,17 +47,17 @@ module _ (p : ℕ → Bool) where
   least-le (s ∷ rs) r m e =
       ⊎-elim
       (λ (q : p (head s) ≡ true).
-        rw (q, leastHead)
-        (⊎-elim
-          (λ (i : r ≡ s). let j : head r ≡ head s = ap head i in omega arith)
-          (λ (n : List·Memᴰ r rs). let j = least-le rs r n e in omega arith)
-          (List·Memᴰ·cases-cons m)))
+      rw (q, leastHead)
+      (⊎-elim
+      (λ (i : r ≡ s). let j : head r ≡ head s = ap head i in omega arith)
+      (λ (n : List·Memᴰ r rs). let j = least-le rs r n e in omega arith)
+      (List·Memᴰ·cases-cons m)))
       (λ (q : p (head s) ≡ false).
-        rw (q, leastHead)
-        (⊎-elim
-          (λ (i : r ≡ s). absurd (let z : true ≡ false = sym e ∙ (ap (λ x. p (head x)) i ∙ q) in mathlib.Core.Bool.true≢false z))
-          (λ (n : List·Memᴰ r rs). least-le rs r n e)
-          (List·Memᴰ·cases-cons m)))
+      rw (q, leastHead)
+      (⊎-elim
+      (λ (i : r ≡ s). absurd (let z : true ≡ false = sym e ∙ (ap (λ x. p (head x)) i ∙ q) in mathlib.Core.Bool.true≢false z))
+      (λ (n : List·Memᴰ r rs). least-le rs r n e)
+      (List·Memᴰ·cases-cons m)))
       (both (p (head s)))
 
   least-past : (rs : List Run) → leastHead p rs ≤ pastBin
@@ -131,10 +131,10 @@ unfolding atMost below
 no-head x rs e =
     count-le _ _ rs
     (λ r m q.
-      ⊎-elim
-      (λ (l : head r < x). lt-ltb (head r) x l)
-      (λ (l : x ≤ head r). let i = leb-true (head r) x q in absurd (some-zero x rs r m (omega arith) e))
-      (lt-or-le (head r) x))
+    ⊎-elim
+    (λ (l : head r < x). lt-ltb (head r) x l)
+    (λ (l : x ≤ head r). let i = leb-true (head r) x q in absurd (some-zero x rs r m (omega arith) e))
+    (lt-or-le (head r) x))
 
 least-at : (t x : ℕ) (rs : List Run) (r : Run) → List·Memᴰ r rs → head r ≡ x → t ≤ atMost x rs → tthHead t rs ≤ x
 unfolding atMost tthHead
@@ -150,14 +150,14 @@ few-below t rs l (suc x) h =
     let i = few-below t rs l x (omega arith) in
     rw (below-suc x rs)
     (⊎-elim
-      (λ (q : 0 < count (λ r. eqb (head r) x) rs).
-        let s = count-some _ rs q in
-        ⊎-elim
-        (λ (u : atMost x rs < t). u)
-        (λ (u : t ≤ atMost x rs). let w = least-at t x rs (s .0) (s .1) (eqb-true (head (s .0)) x (s .2)) u in absurd (omega arith))
-        (lt-or-le (atMost x rs) t))
-      (λ (q : count (λ r. eqb (head r) x) rs ≤ 0). let j = no-head x rs (omega arith) in omega arith)
-      (lt-or-le 0 (count (λ r. eqb (head r) x) rs)))
+    (λ (q : 0 < count (λ r. eqb (head r) x) rs).
+    let s = count-some _ rs q in
+    ⊎-elim
+    (λ (u : atMost x rs < t). u)
+    (λ (u : t ≤ atMost x rs). let w = least-at t x rs (s .0) (s .1) (eqb-true (head (s .0)) x (s .2)) u in absurd (omega arith))
+    (lt-or-le (atMost x rs) t))
+    (λ (q : count (λ r. eqb (head r) x) rs ≤ 0). let j = no-head x rs (omega arith) in omega arith)
+    (lt-or-le 0 (count (λ r. eqb (head r) x) rs)))
 
 pub tth-few : (t : ℕ) (rs : List Run) → 0 < t → below (tthHead t rs) rs < t
 tth-few t rs l = few-below t rs l (tthHead t rs) (omega arith)
@@ -201,25 +201,25 @@ nth-least (x ∷ s) (ordered-cons p o) (suc i) h l m =
 
 -- In any list of the heads in rising order the t-th is the t-th smallest head.
 pub tth-smallest : (t : ℕ) (rs : List Run) {a : ℕ} (hs : List ℕ) → Heads rs → t < length rs → Ordered a hs → length hs ≡ length rs
-  → ((h : ℕ) → notAbove h hs ≡ atMost h rs) → getD hs t 0 ≡ tthHead (suc t) rs
+    → ((h : ℕ) → notAbove h hs ≡ atMost h rs) → getD hs t 0 ≡ tthHead (suc t) rs
 tth-smallest t rs hs b l o e same =
     let v = tthHead (suc t) rs in
     let x = getD hs t 0 in
     le-antisymm
     (⊎-elim
-      (λ (q : v < x).
-        let i = nth-least hs o t v (omega arith) q in
-        let j = tth-enough (suc t) rs b (omega arith) in
-        let k = same v in
-        absurd (omega arith))
-      (λ (q : x ≤ v). q)
-      (lt-or-le v x))
+    (λ (q : v < x).
+    let i = nth-least hs o t v (omega arith) q in
+    let j = tth-enough (suc t) rs b (omega arith) in
+    let k = same v in
+    absurd (omega arith))
+    (λ (q : x ≤ v). q)
+    (lt-or-le v x))
     (⊎-elim
-      (λ (q : x < v).
-        let i = nth-enough hs o t (omega arith) in
-        let j = few-below (suc t) rs (omega arith) (suc x) q in
-        let k = same x in
-        let m = below-suc x rs in
-        absurd (omega arith))
-      (λ (q : v ≤ x). q)
-      (lt-or-le x v))
+    (λ (q : x < v).
+    let i = nth-enough hs o t (omega arith) in
+    let j = few-below (suc t) rs (omega arith) (suc x) q in
+    let k = same x in
+    let m = below-suc x rs in
+    absurd (omega arith))
+    (λ (q : v ≤ x). q)
+    (lt-or-le x v))

@@ -1,10 +1,12 @@
 pub mod Bounds
 pub mod Count
 pub mod Cutting
+pub mod Demands
 pub mod Digits
 pub mod Events
 pub mod Exact
 pub mod Fewest
+pub mod FirstChecks
 pub mod From
 pub mod Heads
 pub mod Instances

@@ -62,10 +62,10 @@ below-only m k i h e =
     ⊎-elim
     (λ (q : i < k). q)
     (λ (q : k ≤ i).
-      let p = pow-mono q in
-      let z : m < 2 ^ i = omega arith in
-      let w : bit m i ≡ 0 = bit-of m i ∙ rw (div-eq-of-lt z) in
-      absurd (omega arith))
+    let p = pow-mono q in
+    let z : m < 2 ^ i = omega arith in
+    let w : bit m i ≡ 0 = bit-of m i ∙ rw (div-eq-of-lt z) in
+    absurd (omega arith))
     (lt-or-le i k)
 
 top-bit : (x : ℕ) → 0 < x → (j : ℕ) × (x / 2 ^ j ≡ 1)
@@ -77,14 +77,14 @@ pub only-below : (m k : ℕ) → ((i : ℕ) → bit m i ≡ 1 → i < k) → m <
 only-below m k h =
     ⊎-elim
     (λ (q : 0 < m / 2 ^ k).
-      let t = top-bit (m / 2 ^ k) q in
-      let e : bit m (k + t .0) ≡ 1 = bit-of m (k + t .0) ∙ rw (← (shr-shr m k (t .0)), t .1) in
-      let i = h (k + t .0) e in
-      absurd (omega arith))
+    let t = top-bit (m / 2 ^ k) q in
+    let e : bit m (k + t .0) ≡ 1 = bit-of m (k + t .0) ∙ rw (← (shr-shr m k (t .0)), t .1) in
+    let i = h (k + t .0) e in
+    absurd (omega arith))
     (λ (q : m / 2 ^ k ≤ 0).
-      let p = pow-pos k in
-      let i = div-lt-iff-lt-mul {x = m} {y = 1} p .0 (omega arith) in
-      omega (arith, one-mul (2 ^ k)))
+    let p = pow-pos k in
+    let i = div-lt-iff-lt-mul {x = m} {y = 1} p .0 (omega arith) in
+    omega (arith, one-mul (2 ^ k)))
     (lt-or-le 0 (m / 2 ^ k))
 
 -- the ones of a mask that names only runs labelled a, a + 1 and so on, from bit a on, are the runs that it names
@@ -177,15 +177,15 @@ names-mask p a (s ∷ rs) l r m =
     let e = label-first l in
     ⊎-elim
     (λ (i : r ≡ s).
-      let j : r .label ≡ a = ap (λ (x : Run). x .label) i ∙ e in
-      let k : eqb (mask p (s ∷ rs) / 2 ^ a % 2) 1 ≡ p s = rw (mask-cons p s rs l, t .1, bit-lowest (t .0) a (p s)) (eqb-one (p s)) in
-      ap (λ (x : ℕ). eqb (mask p (s ∷ rs) / 2 ^ x % 2) 1) j ∙ (k ∙ ap p (sym i)))
+    let j : r .label ≡ a = ap (λ (x : Run). x .label) i ∙ e in
+    let k : eqb (mask p (s ∷ rs) / 2 ^ a % 2) 1 ≡ p s = rw (mask-cons p s rs l, t .1, bit-lowest (t .0) a (p s)) (eqb-one (p s)) in
+    ap (λ (x : ℕ). eqb (mask p (s ∷ rs) / 2 ^ x % 2) 1) j ∙ (k ∙ ap p (sym i)))
     (λ (n : List·Memᴰ r rs).
-      let w = label-least rs (label-rest l) r n in
-      let h : one (p s) * 2 ^ a < 2 ^ suc a = omega (arith, native.Mathlib.Nat.mul-le-mul-right (2 ^ a) (one-le-1 (p s)), pow-pos a) in
-      let k = bits-above (t .0) a (r .label) (one (p s) * 2 ^ a) h w in
-      let u = names-mask p (suc a) rs (label-rest l) r n in
-      rw (mask-cons p s rs l, t .1, k, ← (t .1)) u)
+    let w = label-least rs (label-rest l) r n in
+    let h : one (p s) * 2 ^ a < 2 ^ suc a = omega (arith, native.Mathlib.Nat.mul-le-mul-right (2 ^ a) (one-le-1 (p s)), pow-pos a) in
+    let k = bits-above (t .0) a (r .label) (one (p s) * 2 ^ a) h w in
+    let u = names-mask p (suc a) rs (label-rest l) r n in
+    rw (mask-cons p s rs l, t .1, k, ← (t .1)) u)
     (List·Memᴰ·cases-cons m)
 
 pub mask-only : (p : Run → Bool) (rs : List Run) → Labelled 0 rs → mask p rs < 2 ^ length rs

@@ -18,19 +18,19 @@ use Rattle.model.proofs.Tests.{lt-or-le}
 
 -- the step equations of doubling
 pub double-end : (n v : ℕ) (s : List ℕ) (lo place : ℕ) → length s ≤ place
-  → doubling n v s lo place ≡ record { probes = 0; lo = lo; hi = length s }
+    → doubling n v s lo place ≡ record { probes = 0; lo = lo; hi = length s }
 unfolding doubling
 double-end zero v s lo place h = refl
 double-end (suc n) v s lo place h = rw (le-ltb place (length s) h, doubling)
 
 pub double-stop : (n v : ℕ) (s : List ℕ) (lo place : ℕ) → place < length s → v ≤ getD s place 0
-  → doubling (suc n) v s lo place ≡ record { probes = 1; lo = lo; hi = place }
+    → doubling (suc n) v s lo place ≡ record { probes = 1; lo = lo; hi = place }
 unfolding doubling
 double-stop n v s lo place h l = rw (lt-ltb place (length s) h, le-ltb (getD s place 0) v l, doubling)
 
 pub double-on : (n v : ℕ) (s : List ℕ) (lo place : ℕ) → place < length s → getD s place 0 < v
-  → doubling (suc n) v s lo place
-  ≡ (let b = doubling n v s place (2 * place) in record { probes = suc (b .probes); lo = b .lo; hi = b .hi })
+    → doubling (suc n) v s lo place
+    ≡ (let b = doubling n v s place (2 * place) in record { probes = suc (b .probes); lo = b .lo; hi = b .hi })
 unfolding doubling
 double-on n v s lo place h l = rw (lt-ltb place (length s) h, lt-ltb (getD s place 0) v l, doubling)
 
@@ -41,14 +41,14 @@ halve-end zero v s lo hi h = refl
 halve-end (suc n) v s lo hi h = rw (le-ltb 1 (hi - lo) h, halving)
 
 pub halve-up : (n v : ℕ) (s : List ℕ) (lo hi : ℕ) → 1 < hi - lo → getD s (lo + (hi - lo) / 2) 0 < v
-  → halving (suc n) v s lo hi
-  ≡ (let h = halving n v s (lo + (hi - lo) / 2) hi in record { probes = suc (h .probes); place = h .place })
+    → halving (suc n) v s lo hi
+    ≡ (let h = halving n v s (lo + (hi - lo) / 2) hi in record { probes = suc (h .probes); place = h .place })
 unfolding halving
 halve-up n v s lo hi h l = rw (lt-ltb 1 (hi - lo) h, lt-ltb (getD s (lo + (hi - lo) / 2) 0) v l, halving)
 
 pub halve-down : (n v : ℕ) (s : List ℕ) (lo hi : ℕ) → 1 < hi - lo → v ≤ getD s (lo + (hi - lo) / 2) 0
-  → halving (suc n) v s lo hi
-  ≡ (let h = halving n v s lo (lo + (hi - lo) / 2) in record { probes = suc (h .probes); place = h .place })
+    → halving (suc n) v s lo hi
+    ≡ (let h = halving n v s lo (lo + (hi - lo) / 2) in record { probes = suc (h .probes); place = h .place })
 unfolding halving
 halve-down n v s lo hi h l = rw (lt-ltb 1 (hi - lo) h, le-ltb (getD s (lo + (hi - lo) / 2) 0) v l, halving)
 
@@ -72,7 +72,7 @@ place-high : (v : ℕ) (s : List ℕ) (i : ℕ) → v ≤ getD s i 0 → rank v 
 place-high v s i h = ⊎-elim (λ (q : i < rank v s). let g = below-rank v s i q in absurd (omega arith)) (λ q. q) (lt-or-le i (rank v s))
 
 ended : (v : ℕ) (s : List ℕ) (j lo place : ℕ) → place ≡ 2 ^ j → lo ≡ place / 2 → lo < rank v s → length s ≤ place
-  → Bracketed v s j (record { probes = 0; lo = lo; hi = length s })
+    → Bracketed v s j (record { probes = 0; lo = lo; hi = length s })
 ended v s j lo place e f l n =
     let i : j + 0 - 1 ≡ j - 1 = omega arith in
     let w = half-pow j in
@@ -82,11 +82,11 @@ ended v s j lo place e f l n =
       high = rank-le v s;
       inside = omega arith;
       width = rw i (omega arith);
-      reached = λ q. absurd (omega arith)
+      reached = λ q. absurd (omega arith);
     }
 
 stopped : (v : ℕ) (s : List ℕ) (j lo place : ℕ) → place ≡ 2 ^ j → lo < rank v s → place < length s → v ≤ getD s place 0
-  → Bracketed v s j (record { probes = 1; lo = lo; hi = place })
+    → Bracketed v s j (record { probes = 1; lo = lo; hi = place })
 stopped v s j lo place e l n h =
     let i : j + 1 - 1 ≡ j = omega arith in
     record {
@@ -94,11 +94,11 @@ stopped v s j lo place e l n h =
       high = place-high v s place h;
       inside = omega arith;
       width = rw i (omega arith);
-      reached = λ q. rw i (omega arith)
+      reached = λ q. rw i (omega arith);
     }
 
 went-on : (v : ℕ) (s : List ℕ) (j place : ℕ) (b : Bracket) → place ≡ 2 ^ j → place < length s → Bracketed v s (suc j) b
-  → Bracketed v s j (record { probes = suc (b .probes); lo = b .lo; hi = b .hi })
+    → Bracketed v s j (record { probes = suc (b .probes); lo = b .lo; hi = b .hi })
 went-on v s j place b e n k =
     let i : j + suc (b .probes) - 1 ≡ suc j + b .probes - 1 = omega arith in
     record {
@@ -106,7 +106,7 @@ went-on v s j place b e n k =
       high = k .high;
       inside = k .inside;
       width = rw i (k .width);
-      reached = λ q. rw i (far (b .probes) (k .reached))
+      reached = λ q. rw i (far (b .probes) (k .reached));
     }
   where
     far : (p : ℕ) → (0 < p → 2 ^ (suc j + p - 1) < length s) → 2 ^ (suc j + p - 1) < length s
@@ -114,20 +114,20 @@ went-on v s j place b e n k =
     far (suc p) h = h (omega arith)
 
 bracket : (fuel v : ℕ) {a : ℕ} (s : List ℕ) → Rise a s → (j lo place : ℕ) → place ≡ 2 ^ j → lo ≡ place / 2 → lo < rank v s
-  → length s ≤ place + fuel → Bracketed v s j (doubling fuel v s lo place)
+    → length s ≤ place + fuel → Bracketed v s j (doubling fuel v s lo place)
 bracket zero v s r j lo place e f l n =
     let h : length s ≤ place = omega arith in rw (double-end zero v s lo place h) (ended v s j lo place e f l h)
 bracket (suc fuel) v s r j lo place e f l n =
     ⊎-elim
     (λ (h : place < length s).
-      ⊎-elim
-      (λ (q : getD s place 0 < v).
-        let c = pow-pos j in
-        rw (double-on fuel v s lo place h q)
-        (went-on v s j place _ e h
-          (bracket fuel v s r (suc j) place (2 * place) (omega arith) (omega arith) (place-low v s r place h q) (omega arith))))
-      (λ (q : v ≤ getD s place 0). rw (double-stop fuel v s lo place h q) (stopped v s j lo place e l h q))
-      (lt-or-le (getD s place 0) v))
+    ⊎-elim
+    (λ (q : getD s place 0 < v).
+    let c = pow-pos j in
+    rw (double-on fuel v s lo place h q)
+    (went-on v s j place _ e h
+    (bracket fuel v s r (suc j) place (2 * place) (omega arith) (omega arith) (place-low v s r place h q) (omega arith))))
+    (λ (q : v ≤ getD s place 0). rw (double-stop fuel v s lo place h q) (stopped v s j lo place e l h q))
+    (lt-or-le (getD s place 0) v))
     (λ (h : length s ≤ place). rw (double-end (suc fuel) v s lo place h) (ended v s j lo place e f l h))
     (lt-or-le place (length s))
 
@@ -137,7 +137,7 @@ pub record Located (v : ℕ) (s : List ℕ) (j : ℕ) (h : Halving) : Type 0 whe
   pub few : h .probes ≤ j
 
 locate : (fuel v : ℕ) {a : ℕ} (s : List ℕ) → Rise a s → (j lo hi : ℕ) → lo < rank v s → rank v s ≤ hi → hi ≤ length s → hi - lo ≤ 2 ^ j
-  → hi ≤ lo + suc fuel → Located v s j (halving fuel v s lo hi)
+    → hi ≤ lo + suc fuel → Located v s j (halving fuel v s lo hi)
 locate zero v s r j lo hi l h n w m =
     let q : hi - lo ≤ 1 = omega arith in rw (halve-end zero v s lo hi q) (record { found = omega arith; few = omega arith })
 locate (suc fuel) v s r zero lo hi l h n w m =
@@ -145,15 +145,15 @@ locate (suc fuel) v s r zero lo hi l h n w m =
 locate (suc fuel) v s r (suc j) lo hi l h n w m =
     ⊎-elim
     (λ (q : 1 < hi - lo).
-      let i : lo + (hi - lo) / 2 < length s = omega arith in
-      ⊎-elim
-      (λ (u : getD s (lo + (hi - lo) / 2) 0 < v).
-        let k = locate fuel v s r j (lo + (hi - lo) / 2) hi (place-low v s r _ i u) h n (omega arith) (omega arith) in
-        rw (halve-up fuel v s lo hi q u) (record { found = k .found; few = omega arith }))
-      (λ (u : v ≤ getD s (lo + (hi - lo) / 2) 0).
-        let k = locate fuel v s r j lo (lo + (hi - lo) / 2) l (place-high v s _ u) (omega arith) (omega arith) (omega arith) in
-        rw (halve-down fuel v s lo hi q u) (record { found = k .found; few = omega arith }))
-      (lt-or-le (getD s (lo + (hi - lo) / 2) 0) v))
+    let i : lo + (hi - lo) / 2 < length s = omega arith in
+    ⊎-elim
+    (λ (u : getD s (lo + (hi - lo) / 2) 0 < v).
+    let k = locate fuel v s r j (lo + (hi - lo) / 2) hi (place-low v s r _ i u) h n (omega arith) (omega arith) in
+    rw (halve-up fuel v s lo hi q u) (record { found = k .found; few = omega arith }))
+    (λ (u : v ≤ getD s (lo + (hi - lo) / 2) 0).
+    let k = locate fuel v s r j lo (lo + (hi - lo) / 2) l (place-high v s _ u) (omega arith) (omega arith) (omega arith) in
+    rw (halve-down fuel v s lo hi q u) (record { found = k .found; few = omega arith }))
+    (lt-or-le (getD s (lo + (hi - lo) / 2) 0) v))
     (λ (q : hi - lo ≤ 1). rw (halve-end (suc fuel) v s lo hi q) (record { found = omega arith; few = omega arith }))
     (lt-or-le 1 (hi - lo))
 
@@ -171,12 +171,12 @@ sought-right v x s r h =
     let first : 0 < rank v xs = rw (rank-pass v x s h) (omega arith) in
     let b = bracket (length xs) v xs r 0 0 1 refl refl first (omega arith) in
     let k = locate (length xs) v xs r (0 + (doubling (length xs) v xs 0 1) .probes - 1) ((doubling (length xs) v xs 0 1) .lo) ((doubling (length xs) v xs 0 1) .hi)
-              (b .low) (b .high) (b .inside) (b .width) (omega (arith, b .inside)) in
+    (b .low) (b .high) (b .inside) (b .width) (omega (arith, b .inside)) in
     record {
       moved = rw (k .found) (drop-rank v xs);
       placed = k .found;
       doublings = within-digits (doubling (length xs) v xs 0 1 .probes) (b .reached);
-      halvings = omega (arith, k .few)
+      halvings = omega (arith, k .few);
     }
   where
     within-digits : (p : ℕ) → (0 < p → 2 ^ (0 + p - 1) < length (x ∷ s)) → p ≤ digits (length (x ∷ s))

@@ -64,14 +64,14 @@ gap-is-true rs t f v last g few l =
       only = λ i e. below-only (mask (λ r. leb v (head r)) (at f rs)) (length rs) i (only-at _ f rs (g .labels)) e;
       enough = omega arith;
       misses = λ r m e x n h k.
-        let high : v ≤ head (fromRun f r) = leb-true v _ (sym (named (λ s. leb v (head s)) f rs (g .labels) r m) ∙ e) in
-        let low = head-below-mem (rise-from f (r .bins) (g .rising .each r m)) (mem-from f (r .bins) h n) in
-        let same = head-from f r in
-        omega arith
+          let high : v ≤ head (fromRun f r) = leb-true v _ (sym (named (λ s. leb v (head s)) f rs (g .labels) r m) ∙ e) in
+          let low = head-below-mem (rise-from f (r .bins) (g .rising .each r m)) (mem-from f (r .bins) h n) in
+          let same = head-from f r in
+          omega arith;
     }
 
 pub answer-is-true : (rs : List Run) (t v : ℕ) → Fit rs t → v < pastBin → t ≤ equal v (at v rs)
-  → TrueAnswer rs t v (mask (λ r. eqb (head r) v) (at v rs))
+    → TrueAnswer rs t v (mask (λ r. eqb (head r) v) (at v rs))
 unfolding equal
 answer-is-true rs t v g b h =
     let num = ones-mask (λ r. eqb (head r) v) (at v rs) (labelled-at v (g .labels)) in
@@ -79,9 +79,9 @@ answer-is-true rs t v g b h =
       only = λ i e. below-only (mask (λ r. eqb (head r) v) (at v rs)) (length rs) i (only-at _ v rs (g .labels)) e;
       enough = omega arith;
       has = λ r m e.
-        let same : headOf (from v (r .bins)) ≡ v =
-              sym (head-from v r) ∙ eqb-true _ v (sym (named (λ s. eqb (head s) v) v rs (g .labels) r m) ∙ e) in
-        from-mem v (r .bins) (subst (λ (x : ℕ). List·Memᴰ x (from v (r .bins))) same (head-mem (from v (r .bins)) (omega arith)))
+          let same : headOf (from v (r .bins)) ≡ v =
+          sym (head-from v r) ∙ eqb-true _ v (sym (named (λ s. eqb (head s) v) v rs (g .labels) r m) ∙ e) in
+          from-mem v (r .bins) (subst (λ (x : ℕ). List·Memᴰ x (from v (r .bins))) same (head-mem (from v (r .bins)) (omega arith)));
     }
 
 -- a part of a walk: from where it starts, with what it needs to be true
@@ -134,11 +134,11 @@ walk-true {rs} {t} {f = f} g (hit {v = v} {es = es} l a q w) p m =
     ⊎-elim
     (λ (i : p ≡ gapAt rs f v (v - 1)). rw i (gap-part rs t f v (v - 1) g (a .few) (omega arith)))
     (λ n. ⊎-elim
-      (λ (i : p ≡ answerAt rs v). rw i (answer-part rs t v g (a .bin) q))
-      (λ k. walk-true g w p k)
-      (List·Memᴰ·cases-cons n))
+    (λ (i : p ≡ answerAt rs v). rw i (answer-part rs t v g (a .bin) q))
+    (λ k. walk-true g w p k)
+    (List·Memᴰ·cases-cons n))
     (List·Memᴰ·cases-cons
-      (rw (parts-round (gapAt rs f v (v - 1)) v (at f rs) (wrote (answerAt rs v) ∷ es), parts-wrote (answerAt rs v) es) at m))
+    (rw (parts-round (gapAt rs f v (v - 1)) v (at f rs) (wrote (answerAt rs v) ∷ es), parts-wrote (answerAt rs v) es) at m))
 walk-true {rs} {t} {f = f} g (hit-here {es = es} a q w) p m =
     ⊎-elim
     (λ (i : p ≡ answerAt rs f). rw i (answer-part rs t f g (a .bin) q))

@@ -74,11 +74,11 @@ unfolding at
 at-heads f rs g =
     record {
       small = λ q m.
-        let s = map-mem (fromRun f) rs q m in
-        let b = head-bin (rise-from f (s .0 .bins) (g .each (s .0) (s .1))) in
-        let e = head-from f (s .0) in
-        let k = ap head (s .2) in
-        omega arith
+          let s = map-mem (fromRun f) rs q m in
+          let b = head-bin (rise-from f (s .0 .bins) (g .each (s .0) (s .1))) in
+          let e = head-from f (s .0) in
+          let k = ap head (s .2) in
+          omega arith;
     }
 
 pub at-least : (f : ℕ) (rs : List Run) → Rising rs → f ≤ pastBin → (q : Run) → List·Memᴰ q (at f rs) → f ≤ head q
@@ -92,18 +92,18 @@ at-least f rs g l q m =
 
 -- a search moves a run to its numbers from v on, and so does no search where the head is not below v
 searched-bins : (v l : ℕ) {a : ℕ} (s : List ℕ) → Rise a s → v ≤ pastBin
-  → searched v (record { label = l; bins = s }) ≡ record { label = l; bins = from v s }
+    → searched v (record { label = l; bins = s }) ≡ record { label = l; bins = from v s }
 unfolding searched head
 searched-bins v l [] g h =
     rw (le-ltb (headOf []) v (rw head-nil h), searched) (λ i. record { label = l; bins = sym (from-nil v) i })
 searched-bins v l (x ∷ s) g h =
     ⊎-elim
     (λ (q : x < v).
-      rw (lt-ltb (headOf (x ∷ s)) v (rw (head-cons x s) q), searched)
-      (λ i. record { label = l; bins = (sought-right v x s g q .moved) i }))
+    rw (lt-ltb (headOf (x ∷ s)) v (rw (head-cons x s) q), searched)
+    (λ i. record { label = l; bins = (sought-right v x s g q .moved) i }))
     (λ (q : v ≤ x).
-      rw (le-ltb (headOf (x ∷ s)) v (rw (head-cons x s) q), searched)
-      (λ i. record { label = l; bins = sym (Rattle.model.proofs.From.from-stop v x s q) i }))
+    rw (le-ltb (headOf (x ∷ s)) v (rw (head-cons x s) q), searched)
+    (λ i. record { label = l; bins = sym (Rattle.model.proofs.From.from-stop v x s q) i }))
     (lt-or-le x v)
 
 pub searched-at : (f v : ℕ) (rs : List Run) → Rising rs → f ≤ v → v ≤ pastBin → map (searched v) (at f rs) ≡ at v rs
@@ -111,13 +111,13 @@ unfolding at fromRun
 searched-at f v rs g l h =
     map-map (searched v) (fromRun f) rs
     ∙ map-same _ _ rs
-      (λ r m.
-        searched-bins v (r .label) (from f (r .bins)) (rise-from f (r .bins) (g .each r m)) h
-        ∙ λ i. record { label = r .label; bins = from-from f v (r .bins) l i })
+    (λ r m.
+    searched-bins v (r .label) (from f (r .bins)) (rise-from f (r .bins) (g .each r m)) h
+    ∙ λ i. record { label = r .label; bins = from-from f v (r .bins) l i })
 
 -- past an answer v every run is at its numbers from v + 1 on
 moved-bins : (v l : ℕ) (s : List ℕ) → Rise v s → v < pastBin
-  → movedOn v (record { label = l; bins = s }) ≡ record { label = l; bins = from (suc v) s }
+    → movedOn v (record { label = l; bins = s }) ≡ record { label = l; bins = from (suc v) s }
 unfolding movedOn head
 moved-bins v l s g h =
     ⊎-elim
@@ -130,9 +130,9 @@ unfolding at fromRun
 moved-at v rs g h =
     map-map (movedOn v) (fromRun v) rs
     ∙ map-same _ _ rs
-      (λ r m.
-        moved-bins v (r .label) (from v (r .bins)) (rise-from v (r .bins) (g .each r m)) h
-        ∙ λ i. record { label = r .label; bins = from-from v (suc v) (r .bins) (omega arith) i })
+    (λ r m.
+    moved-bins v (r .label) (from v (r .bins)) (rise-from v (r .bins) (g .each r m)) h
+    ∙ λ i. record { label = r .label; bins = from-from v (suc v) (r .bins) (omega arith) i })
 
 -- how many heads equal v
 unfoldable pub equal : ℕ → List Run → ℕ
@@ -158,11 +158,11 @@ pub data Walked (rs : List Run) (t : ℕ) : ℕ → List Event → Type 0 where
   over : {f : ℕ} → f ≡ pastBin → Walked rs t f []
   stop : {f : ℕ} → f < pastBin → below pastBin (at f rs) < t → Walked rs t f (wrote (gapAt rs f pastBin lastBin) ∷ [])
   pass : {f v : ℕ} {es : List Event} → f < v → Ahead rs t f v → equal v (at v rs) < t → Walked rs t v es
-    → Walked rs t f (wrote (gapAt rs f v (v - 1)) ∷ (searches v (at f rs) ++ es))
+      → Walked rs t f (wrote (gapAt rs f v (v - 1)) ∷ (searches v (at f rs) ++ es))
   hit : {f v : ℕ} {es : List Event} → f < v → Ahead rs t f v → t ≤ equal v (at v rs) → Walked rs t (suc v) es
-    → Walked rs t f (wrote (gapAt rs f v (v - 1)) ∷ (searches v (at f rs) ++ (wrote (answerAt rs v) ∷ es)))
+      → Walked rs t f (wrote (gapAt rs f v (v - 1)) ∷ (searches v (at f rs) ++ (wrote (answerAt rs v) ∷ es)))
   hit-here : {f : ℕ} {es : List Event} → Ahead rs t f f → t ≤ equal f (at f rs) → Walked rs t (suc f) es
-    → Walked rs t f (wrote (answerAt rs f) ∷ es)
+      → Walked rs t f (wrote (answerAt rs f) ∷ es)
 
 -- where every head is at least the floor, a search for the floor is none
 no-searches : (v : ℕ) (rs : List Run) → ((r : Run) → List·Memᴰ r rs → v ≤ head r) → searches v rs ≡ []
@@ -178,46 +178,46 @@ all-equal f rs h =
 
 -- the ways that a round goes on, after the searches
 settled-hit : (next : ℕ → List Run → List Event) (t v : ℕ) (rs : List Run) → t ≤ equal v (at v rs) → v < lastBin
-  → settle next t v (at v rs) ≡ wrote (answerAt rs v) ∷ next (suc v) (map (movedOn v) (at v rs))
+    → settle next t v (at v rs) ≡ wrote (answerAt rs v) ∷ next (suc v) (map (movedOn v) (at v rs))
 unfolding settle equal answerAt
 settled-hit next t v rs h l =
     let n : v ≢ lastBin = omega arith in
     rw (le-leb t (count (λ r. eqb (head r) v) (at v rs)) h, ne-eqb v lastBin n, settle)
 
 settled-last : (next : ℕ → List Run → List Event) (t v : ℕ) (rs : List Run) → t ≤ equal v (at v rs) → v ≡ lastBin
-  → settle next t v (at v rs) ≡ wrote (answerAt rs v) ∷ []
+    → settle next t v (at v rs) ≡ wrote (answerAt rs v) ∷ []
 unfolding settle equal answerAt
 settled-last next t v rs h l =
     rw (le-leb t (count (λ r. eqb (head r) v) (at v rs)) h, eq-eqb v lastBin l, settle)
 
 settled-pass : (next : ℕ → List Run → List Event) (t v : ℕ) (rs : List Run) → equal v (at v rs) < t
-  → settle next t v (at v rs) ≡ next v (at v rs)
+    → settle next t v (at v rs) ≡ next v (at v rs)
 unfolding settle equal
 settled-pass next t v rs h = rw (lt-leb t (count (λ r. eqb (head r) v) (at v rs)) h, settle)
 
 -- a round with too few heads, and one with heads enough
 round-stop : (next : ℕ → List Run → List Event) (t f : ℕ) (rs : List Run) → below pastBin (at f rs) < t
-  → round next t f (at f rs) ≡ wrote (gapAt rs f pastBin lastBin) ∷ []
+    → round next t f (at f rs) ≡ wrote (gapAt rs f pastBin lastBin) ∷ []
 unfolding round below gapAt
 round-stop next t f rs h = rw (lt-ltb (count (λ r. ltb (head r) pastBin) (at f rs)) t h, round)
 
 round-gap : (next : ℕ → List Run → List Event) (t f : ℕ) (rs : List Run) → t ≤ below pastBin (at f rs) → f < tthHead t (at f rs)
-  → round next t f (at f rs)
-  ≡ wrote (gapAt rs f (tthHead t (at f rs)) (tthHead t (at f rs) - 1))
+    → round next t f (at f rs)
+    ≡ wrote (gapAt rs f (tthHead t (at f rs)) (tthHead t (at f rs) - 1))
     ∷ (searches (tthHead t (at f rs)) (at f rs) ++ settle next t (tthHead t (at f rs)) (map (searched (tthHead t (at f rs))) (at f rs)))
 unfolding round below gapAt
 round-gap next t f rs h l =
     rw (le-ltb (count (λ r. ltb (head r) pastBin) (at f rs)) t h, round) (rw (lt-ltb f (tthHead t (at f rs)) l))
 
 round-here : (next : ℕ → List Run → List Event) (t f : ℕ) (rs : List Run) → t ≤ below pastBin (at f rs) → tthHead t (at f rs) ≡ f
-  → round next t f (at f rs) ≡ searches f (at f rs) ++ settle next t f (map (searched f) (at f rs))
+    → round next t f (at f rs) ≡ searches f (at f rs) ++ settle next t f (map (searched f) (at f rs))
 unfolding round below
 round-here next t f rs h e =
     rw (le-ltb (count (λ r. ltb (head r) pastBin) (at f rs)) t h, round) (rw (e, le-ltb f f (omega arith)))
 
 -- the t-th smallest head at a floor, where heads enough are left
 ahead : (rs : List Run) (t f : ℕ) → Rising rs → 0 < t → t ≤ length rs → f < pastBin → t ≤ below pastBin (at f rs)
-  → Ahead rs t f (tthHead t (at f rs))
+    → Ahead rs t f (tthHead t (at f rs))
 ahead rs t f g p k l h =
     let few = tth-few t (at f rs) p in
     let small = tth-past t (at f rs) in
@@ -226,7 +226,7 @@ ahead rs t f g p k l h =
       floor = tth-ge t f (at f rs) (omega arith) (at-least f rs g (omega arith));
       bin = before-past (tthHead t (at f rs)) small few;
       enough = tth-enough t (at f rs) (at-heads f rs g) (omega arith);
-      few = few
+      few = few;
     }
   where
     before-past : (v : ℕ) → v ≤ pastBin → below v (at f rs) < t → v < pastBin
@@ -238,24 +238,25 @@ ahead rs t f g p k l h =
 
 -- after an answer: the walk is over, or goes on from the next bin
 answered : (rs : List Run) (t n u : ℕ) → Rising rs → u < pastBin → t ≤ equal u (at u rs)
-  → (suc u < pastBin → Walked rs t (suc u) (walk n t (suc u) (at (suc u) rs)))
-  → (es : List Event) × (settle (walk n t) t u (at u rs) ≡ wrote (answerAt rs u) ∷ es) × Walked rs t (suc u) es
+    → (suc u < pastBin → Walked rs t (suc u) (walk n t (suc u) (at (suc u) rs)))
+    → (es : List Event) × (settle (walk n t) t u (at u rs) ≡ wrote (answerAt rs u) ∷ es) × Walked rs t (suc u) es
 answered rs t n u g l q next =
     let e = past-last in
     ⊎-elim
-    (λ (i : suc u < pastBin).
-      (walk n t (suc u) (at (suc u) rs),
-       settled-hit (walk n t) t u rs q (omega arith) ∙ ap (λ x. wrote (answerAt rs u) ∷ walk n t (suc u) x) (moved-at u rs g l),
-       next i))
+    (λ (i : suc u < pastBin). (
+      walk n t (suc u) (at (suc u) rs),
+      settled-hit (walk n t) t u rs q (omega arith) ∙ ap (λ x. wrote (answerAt rs u) ∷ walk n t (suc u) x) (moved-at u rs g l),
+      next i,
+    ))
     (λ (i : pastBin ≤ suc u).
-      let j : u ≡ lastBin = omega arith in
-      let k : suc u ≡ pastBin = omega arith in
-      ([], settled-last (walk n t) t u rs q j, over k))
+    let j : u ≡ lastBin = omega arith in
+    let k : suc u ≡ pastBin = omega arith in
+    ([], settled-last (walk n t) t u rs q j, over k))
     (lt-or-le (suc u) pastBin)
 
 -- Every walk goes one of the ways, with as many rounds as there are bins from its floor on.
 pub walked : (rs : List Run) (t : ℕ) → Rising rs → 0 < t → t ≤ length rs → (n f : ℕ) → f < pastBin → pastBin ≤ f + n
-  → Walked rs t f (walk n t f (at f rs))
+    → Walked rs t f (walk n t f (at f rs))
 unfolding walk
 walked rs t g p k zero f l m = absurd (omega arith)
 walked rs t g p k (suc n) f l m =
@@ -266,8 +267,10 @@ walked rs t g p k (suc n) f l m =
   where
     v : ℕ
     v = tthHead t (at f rs)
+
     Next : Type 0
     Next = (u : ℕ) → u < pastBin → pastBin ≤ u + n → Walked rs t u (walk n t u (at u rs))
+
     here : Ahead rs t f v → v ≡ f → t ≤ below pastBin (at f rs) → Next → Walked rs t f (round (walk n t) t f (at f rs))
     here a e h next =
         let a′ : Ahead rs t f f = subst (λ x. Ahead rs t f x) e a in
@@ -276,18 +279,20 @@ walked rs t g p k (suc n) f l m =
         let s = answered rs t n f g l q (λ i. next (suc f) i (omega arith)) in
         rw (round-here (walk n t) t f rs h e, no-searches f (at f rs) heads, searched-at f f rs g (omega arith) (omega arith), s .1)
         (hit-here a′ q (s .2))
+
     beyond : Ahead rs t f v → f < v → t ≤ below pastBin (at f rs) → Next → Walked rs t f (round (walk n t) t f (at f rs))
     beyond a i h next =
         let j : v < pastBin = a .bin in
         let e = searched-at f v rs g (omega arith) (omega arith) in
         rw (round-gap (walk n t) t f rs h i, e)
         (⊎-elim
-          (λ (q : equal v (at v rs) < t).
-            rw (settled-pass (walk n t) t v rs q) (pass i a q (next v j (omega arith))))
-          (λ (q : t ≤ equal v (at v rs)).
-            let s = answered rs t n v g j q (λ w. next (suc v) w (omega arith)) in
-            rw (s .1) (hit i a q (s .2)))
-          (lt-or-le (equal v (at v rs)) t))
+        (λ (q : equal v (at v rs) < t).
+        rw (settled-pass (walk n t) t v rs q) (pass i a q (next v j (omega arith))))
+        (λ (q : t ≤ equal v (at v rs)).
+        let s = answered rs t n v g j q (λ w. next (suc v) w (omega arith)) in
+        rw (s .1) (hit i a q (s .2)))
+        (lt-or-le (equal v (at v rs)) t))
+
     rounds : Ahead rs t f v → t ≤ below pastBin (at f rs) → Next → Walked rs t f (round (walk n t) t f (at f rs))
     rounds a h next =
         ⊎-elim (λ (q : f < v). beyond a q h next) (λ (q : v ≤ f). here a (omega (arith, a .floor)) h next) (lt-or-le f v)

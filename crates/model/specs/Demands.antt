@@ -44,12 +44,15 @@ pub record Exact (rs : List Run) (t : ℕ) (answers : List ℕ) : Type 0 where
 -- Demand 2 for a question. When a walk reaches its end, the answers are all the bins held by at least t lists, and no others, rising, each once. The
 -- certificate beside them is true by the paper's rule. A walk that stops early has written the first parts of that same certificate and
 -- their answers.
+pub record Certified (rs : List Run) (t : ℕ) (o : Outcome) (answers certificate : List ℕ) : Type 0 where
+  pub exact : Exact rs t (answersOf (wholeCertificate t rs))
+  pub is-true : TrueCertificate rs t (wholeCertificate t rs)
+  pub at-the-end : refusedBy o ≡ 0 → partsIn o ≡ length (wholeCertificate t rs)
+  pub parts : take (bytesIn o) certificate ≡ encode (take (partsIn o) (wholeCertificate t rs))
+  pub answered : take (answersIn o) answers ≡ answersOf (take (partsIn o) (wholeCertificate t rs))
+
 pub record Demand2 (numbers ends : List ℕ) (t : ℕ) (o : Outcome) (answers certificate : List ℕ) : Type 0 where
-  pub exact : Exact (runs numbers ends) t (answersOf (wholeCertificate t (runs numbers ends)))
-  pub is-true : TrueCertificate (runs numbers ends) t (wholeCertificate t (runs numbers ends))
-  pub at-the-end : refusedBy o ≡ 0 → partsIn o ≡ length (wholeCertificate t (runs numbers ends))
-  pub parts : take (bytesIn o) certificate ≡ encode (take (partsIn o) (wholeCertificate t (runs numbers ends)))
-  pub answered : take (answersIn o) answers ≡ answersOf (take (partsIn o) (wholeCertificate t (runs numbers ends)))
+  pub for-every : firstChecks numbers ends t ≡ passed → Certified (runs numbers ends) t o answers certificate
 
 -- Demand 2 for the checker: it accepts a certificate, whoever wrote it, if it is true and only then; the counts are the certificate's.
 pub record Accepts (rs : List Run) (t : ℕ) (certificate : List ℕ) (v : Verdict) : Type 0 where

@@ -1,0 +1,186 @@
+-- Demands 2 and 3 for the question: every clause, for any lists and threshold that pass the first checks, any allowance and any buffers.
+-- Assumes nothing.
+use Prim.Native.Nat.{ℕ, zero, suc, _+_, _*_, _≤_, _<_}
+use lib.ListN.{length, take}
+use lib.Seq.{take-append-seam, take-length}
+use mathlib.Core.List.{List, [], _∷_, _++_, List·Memᴰ}
+use mathlib.Core.Logic.{_≢_}
+use mathlib.Core.Path.{_≡_, refl, sym, ap, _∙_, subst}
+use native.Mathlib.Nat.{le-trans, mul-le-mul-right}
+use native.Mathlib.Omega.{arith}
+use Rattle.model.specs.Certificate.{Part, answersOf, encode, TrueCertificate}
+use Rattle.model.specs.Compared.{wholeWalk, partsOf, wholeCertificate, probeIn, probesIn, probesOf, digits, boundIn, bound}
+use Rattle.model.specs.Demands.{Fits, answersIn, partsIn, bytesIn, probesMade, refusedBy, Certified, Demand2, Bounded, Demand3}
+use Rattle.model.specs.Refusals.{Check, passed, firstChecks, Room, Ended, cut, cutWalk, Outcome, Answered, over, outcomeOf, query}
+use Rattle.model.specs.Runs.{Run, firstBin, pastBin, runs, total}
+use Rattle.model.specs.Walk.{Event, walk}
+use Rattle.model.proofs.Bounds.{walk-probes, Owned, owned, sum-probes}
+use Rattle.model.proofs.Count.{total-le}
+use Rattle.model.proofs.Cutting.{cut-whole, cut-parts, cut-few, cut-cost, cut-mem, cut-enough}
+use Rattle.model.proofs.Exact.{exact}
+use Rattle.model.proofs.Fewest.{fewest}
+use Rattle.model.proofs.FirstChecks.{fit}
+use Rattle.model.proofs.Truth.{Fit, walk-covers, walk-true}
+use Rattle.model.proofs.Walking.{Walked, walked, at, at-start}
+
+-- the whole walk goes one of the ways
+pub whole-walked : {rs : List Run} {t : ℕ} → Fit rs t → Walked rs t firstBin (wholeWalk t rs)
+unfolding wholeWalk firstBin pastBin
+whole-walked {rs} {t} g =
+    subst (λ (x : List Run). Walked rs t firstBin (walk pastBin t firstBin x)) (at-start firstBin rs (omega arith) (g .rising))
+    (walked rs t (g .rising) (g .some) (g .runs) pastBin firstBin (omega arith) (omega arith))
+
+pub whole-true : {rs : List Run} {t : ℕ} → Fit rs t → TrueCertificate rs t (wholeCertificate t rs)
+unfolding wholeCertificate
+whole-true g = record { covering = walk-covers (whole-walked g); each = walk-true g (whole-walked g) }
+
+-- No true certificate has fewer parts than the whole walk's.
+pub whole-fewest : {rs : List Run} {t : ℕ} {ps : List Part} → Fit rs t → TrueCertificate rs t ps → length (wholeCertificate t rs) ≤ length ps
+unfolding wholeCertificate
+whole-fewest {ps = ps} g c = fewest g (whole-walked g) firstBin ps (omega arith) (c .covering) (c .each)
+
+-- ---- what an ended walk returns
+
+outcome-parts : (es : List Event) (n : ℕ) → partsIn (outcomeOf (record { events = es; refused = n })) ≡ length (partsOf es)
+unfolding outcomeOf partsIn
+outcome-parts es zero = refl
+outcome-parts es (suc n) = refl
+
+outcome-answers : (es : List Event) (n : ℕ) → answersIn (outcomeOf (record { events = es; refused = n })) ≡ length (answersOf (partsOf es))
+unfolding outcomeOf answersIn
+outcome-answers es zero = refl
+outcome-answers es (suc n) = refl
+
+outcome-bytes : (es : List Event) (n : ℕ) → bytesIn (outcomeOf (record { events = es; refused = n })) ≡ length (encode (partsOf es))
+unfolding outcomeOf bytesIn
+outcome-bytes es zero = refl
+outcome-bytes es (suc n) = refl
+
+outcome-probes : (es : List Event) (n : ℕ) → probesMade (outcomeOf (record { events = es; refused = n })) ≡ probesOf es
+unfolding outcomeOf probesMade
+outcome-probes es zero = refl
+outcome-probes es (suc n) = refl
+
+outcome-refused : (es : List Event) (n : ℕ) → refusedBy (outcomeOf (record { events = es; refused = n })) ≡ n
+unfolding outcomeOf refusedBy
+outcome-refused es zero = refl
+outcome-refused es (suc n) = refl
+
+-- the walk of a question, and what its buffers hold at the end
+module _ (rs : List Run) (t allowance : ℕ) (answers certificate : List ℕ) where
+  ended : Ended
+  ended = cutWalk t rs allowance (length answers) (length certificate)
+
+  parts-written : partsOf (ended .events) ≡ take (length (partsOf (ended .events))) (wholeCertificate t rs)
+  unfolding ended cutWalk wholeCertificate
+  parts-written = sym (cut-parts _ (wholeWalk t rs))
+
+  certificate-front : take (bytesIn (outcomeOf ended)) (over (encode (partsOf (ended .events))) certificate)
+      ≡ encode (take (partsIn (outcomeOf ended)) (wholeCertificate t rs))
+  unfolding over
+  certificate-front =
+      rw (outcome-bytes (ended .events) (ended .refused), outcome-parts (ended .events) (ended .refused), ← parts-written)
+      (take-append-seam (encode (partsOf (ended .events))) _)
+
+  answers-front : take (answersIn (outcomeOf ended)) (over (answersOf (partsOf (ended .events))) answers)
+      ≡ answersOf (take (partsIn (outcomeOf ended)) (wholeCertificate t rs))
+  unfolding over
+  answers-front =
+      rw (outcome-answers (ended .events) (ended .refused), outcome-parts (ended .events) (ended .refused), ← parts-written)
+      (take-append-seam (answersOf (partsOf (ended .events))) _)
+
+  whole-at-end : refusedBy (outcomeOf ended) ≡ 0 → partsIn (outcomeOf ended) ≡ length (wholeCertificate t rs)
+  unfolding ended cutWalk wholeCertificate
+  whole-at-end e =
+      outcome-parts (ended .events) (ended .refused)
+      ∙ ap (λ l. length (partsOf l)) (cut-whole _ (wholeWalk t rs) (sym (outcome-refused (ended .events) (ended .refused)) ∙ e))
+
+  -- d × 2 × digits of a run, whatever the walk did of the whole
+  each-bound : Fit rs t → (d : ℕ) → length (wholeCertificate t rs) ≤ d → (r : Run) → List·Memᴰ r rs → probesIn (r .label) (wholeWalk t rs) ≤ boundIn d r
+  unfolding boundIn wholeCertificate
+  each-bound g d h r m =
+      let k = walk-probes g (whole-walked g) r m in
+      let i = mul-le-mul-right (2 * digits (length (r .bins))) h in
+      omega arith
+
+  cut-bound : (r : Run) → probesIn (r .label) (ended .events) ≤ probesIn (r .label) (wholeWalk t rs)
+  unfolding ended cutWalk probesIn
+  cut-bound r = cut-cost (probeIn (r .label)) _ (wholeWalk t rs)
+
+  sum-made : Fit rs t → probesMade (outcomeOf ended) ≡ total (λ r. probesIn (r .label) (ended .events)) rs
+  unfolding ended cutWalk
+  sum-made g =
+      let o = owned g (whole-walked g) in
+      outcome-probes (ended .events) (ended .refused)
+      ∙ sym (sum-probes rs (ended .events) (record { each = λ e m. o .each e (cut-mem _ (wholeWalk t rs) e m) }))
+
+  never-spent : Fit rs t → (d : ℕ) → length (wholeCertificate t rs) ≤ d → bound d rs ≤ allowance → refusedBy (outcomeOf ended) ≢ 7
+  unfolding ended cutWalk bound
+  never-spent g d h l e =
+      let s = sum-probes rs (wholeWalk t rs) (owned g (whole-walked g)) in
+      let k = total-le (λ r. probesIn (r .label) (wholeWalk t rs)) (boundIn d) rs (each-bound g d h) in
+      cut-enough (record { probes = allowance; answers = length answers; bytes = length certificate }) (wholeWalk t rs) (omega arith)
+      (sym (outcome-refused (ended .events) (ended .refused)) ∙ e)
+
+  few-parts : length (partsOf (ended .events)) ≤ length (wholeCertificate t rs)
+  unfolding ended cutWalk wholeCertificate
+  few-parts = cut-few _ (wholeWalk t rs)
+
+  certified-ended : Fit rs t
+      → Certified rs t (outcomeOf ended) (over (answersOf (partsOf (ended .events))) answers) (over (encode (partsOf (ended .events))) certificate)
+  certified-ended g =
+      record {
+        exact = exact g (whole-true g);
+        is-true = whole-true g;
+        at-the-end = whole-at-end;
+        parts = certificate-front;
+        answered = answers-front;
+      }
+
+  bounded-ended : Fit rs t → (ps : List Part) → TrueCertificate rs t ps
+      → Bounded rs t allowance answers certificate (outcomeOf ended) (over (encode (partsOf (ended .events))) certificate) (length ps)
+  unfolding ended
+  bounded-ended g ps c =
+      let f = whole-fewest g c in
+      let p = outcome-parts (ended .events) (ended .refused) in
+      let n = few-parts in
+      record {
+        fewest = f;
+        written = certificate-front;
+        few = omega arith;
+        each-whole = each-bound g (length ps) f;
+        each = λ r m. le-trans (cut-bound r) (each-bound g (length ps) f r m);
+        sum = sum-made g;
+        enough = never-spent g (length ps) f;
+      }
+
+-- a question whose first checks pass is its ended walk
+query-passed : (numbers ends : List ℕ) (t allowance : ℕ) (answers certificate : List ℕ) → firstChecks numbers ends t ≡ passed
+    → query numbers ends t allowance answers certificate
+    ≡ record {
+      outcome = outcomeOf (ended (runs numbers ends) t allowance answers certificate);
+      answers = over (answersOf (partsOf (ended (runs numbers ends) t allowance answers certificate .events))) answers;
+      certificate = over (encode (partsOf (ended (runs numbers ends) t allowance answers certificate .events))) certificate;
+    }
+unfolding query ended
+query-passed numbers ends t allowance answers certificate e = rw (e, query)
+
+pub demand2 : (numbers ends : List ℕ) (t allowance : ℕ) (answers certificate : List ℕ) → Fits pastBin numbers
+    → Demand2 numbers ends t (query numbers ends t allowance answers certificate .outcome) (query numbers ends t allowance answers certificate .answers)
+    (query numbers ends t allowance answers certificate .certificate)
+demand2 numbers ends t allowance answers certificate h =
+    record {
+      for-every = λ e.
+          rw (query-passed numbers ends t allowance answers certificate e)
+          (certified-ended (runs numbers ends) t allowance answers certificate (fit numbers ends t h e));
+    }
+
+pub demand3 : (numbers ends : List ℕ) (t allowance : ℕ) (answers certificate : List ℕ) → Fits pastBin numbers
+    → Demand3 numbers ends t allowance answers certificate (query numbers ends t allowance answers certificate .outcome)
+    (query numbers ends t allowance answers certificate .certificate)
+demand3 numbers ends t allowance answers certificate h =
+    record {
+      for-every = λ e ps c.
+          rw (query-passed numbers ends t allowance answers certificate e)
+          (bounded-ended (runs numbers ends) t allowance answers certificate (fit numbers ends t h e) ps c);
+    }
