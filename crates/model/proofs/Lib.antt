@@ -1,8 +1,10 @@
 pub mod Bounds
+pub mod Checking
 pub mod Count
 pub mod Cutting
 pub mod Demands
 pub mod Digits
+pub mod Encoding
 pub mod Events
 pub mod Exact
 pub mod Fewest

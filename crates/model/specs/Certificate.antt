@@ -21,6 +21,10 @@ unfoldable pub lastOf : Part → ℕ
 lastOf (answer v m) = v
 lastOf (gap f l m) = l
 
+unfoldable pub maskOf : Part → ℕ
+maskOf (answer v m) = m
+maskOf (gap f l m) = m
+
 unfoldable pub answersOf : List Part → List ℕ
 answersOf [] = []
 answersOf (answer v m ∷ ps) = v ∷ answersOf ps

@@ -167,11 +167,14 @@ counted (answer v m) (invalid x y) = invalid x y
 counted (gap f l m) (valid a n) = valid a (suc n)
 counted (gap f l m) (invalid x y) = invalid x y
 
--- The checker settles one field fully before the next, from the next uncovered bin b and the offset at on. At the end: a bin is still uncovered. (Each
--- field has at least one byte.)
+-- At the end 9: a bin is still uncovered, b being the next one.
+unfoldable pub atEnd : ℕ → ℕ → Verdict
+atEnd b at = elim (eqb b pastBin) [ true ↦ valid 0 0 | false ↦ invalid 9 at ]
+
+-- The checker settles one field fully before the next, from the next uncovered bin b and the offset at on. (Each field has at least one byte.)
 unfoldable pub checkFrom : ℕ → List Run → ℕ → ℕ → ℕ → List ℕ → Verdict
-checkFrom zero rs t b at bytes = elim (eqb b pastBin) [ true ↦ valid 0 0 | false ↦ invalid 9 at ]
-checkFrom (suc fuel) rs t b at [] = elim (eqb b pastBin) [ true ↦ valid 0 0 | false ↦ invalid 9 at ]
+checkFrom zero rs t b at bytes = atEnd b at
+checkFrom (suc fuel) rs t b at [] = atEnd b at
 checkFrom (suc fuel) rs t b at (x ∷ bytes) =
     elim (readField (x ∷ bytes)) [
       | unreadable ↦ invalid 8 at
