@@ -34,10 +34,10 @@ within-none f l (y ∷ s) h =
     let i = within-none f l s (λ x m. h x (List·Memᴰ·tail m)) in
     ⊎-elim
     (λ (q : f ≤ y).
-      ⊎-elim
-      (λ (o : l < y). rw (le-leb f y q, lt-leb y l o, within) i)
-      (λ (o : y ≤ l). absurd (h y (List·Memᴰ·head refl) q o))
-      (lt-or-le l y))
+    ⊎-elim
+    (λ (o : l < y). rw (le-leb f y q, lt-leb y l o, within) i)
+    (λ (o : y ≤ l). absurd (h y (List·Memᴰ·head refl) q o))
+    (lt-or-le l y))
     (λ (q : y < f). rw (lt-leb f y q, within) i)
     (⊎-swapped (lt-or-le y f))
   where
@@ -51,15 +51,15 @@ within-some f l (y ∷ s) x m i j =
     ⊎-elim
     (λ (q : (leb f y && leb y l) ≡ true). rw (q, within) (omega arith))
     (λ (q : (leb f y && leb y l) ≡ false).
-      rw (q, within)
-      (⊎-elim
-        (λ (e : x ≡ y).
-          let c : f ≤ y = omega arith in
-          let d : y ≤ l = omega arith in
-          let w : (leb f y && leb y l) ≡ true = rw (le-leb f y c, le-leb y l d) in
-          true-false w q)
-        (λ n. within-some f l s x n i j)
-        (List·Memᴰ·cases-cons m)))
+    rw (q, within)
+    (⊎-elim
+    (λ (e : x ≡ y).
+    let c : f ≤ y = omega arith in
+    let d : y ≤ l = omega arith in
+    let w : (leb f y && leb y l) ≡ true = rw (le-leb f y c, le-leb y l d) in
+    true-false w q)
+    (λ n. within-some f l s x n i j)
+    (List·Memᴰ·cases-cons m)))
     (both (leb f y && leb y l))
 
 -- a mask that a shift by k leaves empty names only runs below k
@@ -93,7 +93,7 @@ passed-true rs t (answer v m) e h =
     answer-true (record {
       only = λ i b. below-only m (length rs) i (shift-only m (length rs) (d .0)) b;
       enough = ltb-false (ones m) t (d .1);
-      has = λ r k n. holds-mem v (r .bins) (not-false _ (and-false _ _ (any-false (answer v m) rs h r k) n))
+      has = λ r k n. holds-mem v (r .bins) (not-false _ (and-false _ _ (any-false (answer v m) rs h r k) n));
     })
 passed-true rs t (gap f l m) e h =
     let d = or-false (not (eqb (m / 2 ^ length rs) 0)) (ltb (ones m) (length rs - t + 1)) e in
@@ -101,9 +101,9 @@ passed-true rs t (gap f l m) e h =
       only = λ i b. below-only m (length rs) i (shift-only m (length rs) (d .0)) b;
       enough = ltb-false (ones m) (length rs - t + 1) (d .1);
       misses = λ r k n x q i j.
-        let z = eqb-true (length (within f l (r .bins))) 0 (not-false _ (and-false _ _ (any-false (gap f l m) rs h r k) n)) in
-        let w = within-some f l (r .bins) x q i j in
-        absurd (omega arith)
+          let z = eqb-true (length (within f l (r .bins))) 0 (not-false _ (and-false _ _ (any-false (gap f l m) rs h r k) n)) in
+          let w = within-some f l (r .bins) x q i j in
+          absurd (omega arith);
     })
 
 true-named : {rs : List Run} {t : ℕ} {p : Part} → TruePart rs t p → misnamed (length rs) t p ≡ false
@@ -153,7 +153,7 @@ settled rs t b at p e =
     record {
       first = eqb-true (firstOf p) b (not-false _ (d₁ .0));
       order = ltb-false (lastOf p) (firstOf p) (d₂ .0);
-      is-true = passed-true rs t p c₂ c₃
+      is-true = passed-true rs t p c₂ c₃;
     }
 
 settles : (rs : List Run) (t b at : ℕ) (p : Part) → firstOf p ≡ b → firstOf p ≤ lastOf p → b ≢ pastBin → TruePart rs t p → checkPart rs t b at p ≡ passed
@@ -170,7 +170,7 @@ size-pos (gap f l m) = omega arith
 
 -- one more part
 counted-valid : (p : Part) (v : Verdict) (a n : ℕ) → counted p v ≡ valid a n
-  → (c : ℕ) × (k : ℕ) × (v ≡ valid c k) × (n ≡ suc k) × ((ps : List Part) → c ≡ length (answersOf ps) → a ≡ length (answersOf (p ∷ ps)))
+    → (c : ℕ) × (k : ℕ) × (v ≡ valid c k) × (n ≡ suc k) × ((ps : List Part) → c ≡ length (answersOf ps) → a ≡ length (answersOf (p ∷ ps)))
 unfolding counted answersOf
 counted-valid (answer x m) (valid c k) a n e = (c, k, refl, cc, λ ps h. let i : a ≡ suc c = cc in i ∙ ap suc h)
 counted-valid (answer x m) (invalid y z) a n e = absurd (let w : _≡_ {A = ℕ} 0 1 = cc in omega arith)
@@ -196,29 +196,29 @@ unfolding atEnd encode answersOf
 end-valid rs t b at a n e =
     ⊎-elim
     (λ (q : b ≡ pastBin).
-      let i : valid 0 0 ≡ valid a n = rw (eq-eqb b pastBin q, atEnd) at e in
-      record {
-        parts = [];
-        covering = covered q;
-        each = λ p m. absurd (List·Memᴰ·not-nil m);
-        same = refl;
-        answers = cc;
-        number = cc
-      })
+    let i : valid 0 0 ≡ valid a n = rw (eq-eqb b pastBin q, atEnd) at e in
+    record {
+      parts = [];
+      covering = covered q;
+      each = λ p m. absurd (List·Memᴰ·not-nil m);
+      same = refl;
+      answers = cc;
+      number = cc;
+    })
     (λ (q : b ≢ pastBin).
-      let i : invalid 9 at ≡ valid a n = rw (ne-eqb b pastBin q, atEnd) at e in
-      absurd (let w : _≡_ {A = ℕ} 0 1 = cc in omega arith))
+    let i : invalid 9 at ≡ valid a n = rw (ne-eqb b pastBin q, atEnd) at e in
+    absurd (let w : _≡_ {A = ℕ} 0 1 = cc in omega arith))
     (eq-or-ne b pastBin)
 
 -- the steps of the checker
 check-read : (fuel : ℕ) (rs : List Run) (t b at x : ℕ) (bytes rest : List ℕ) (p : Part) → readField (x ∷ bytes) ≡ read p rest → checkPart rs t b at p ≡ passed
-  → checkFrom (suc fuel) rs t b at (x ∷ bytes) ≡ counted p (checkFrom fuel rs t (suc (lastOf p)) (at + sizeOf p) rest)
+    → checkFrom (suc fuel) rs t b at (x ∷ bytes) ≡ counted p (checkFrom fuel rs t (suc (lastOf p)) (at + sizeOf p) rest)
 unfolding checkFrom
 check-read fuel rs t b at x bytes rest p e h = rw (e, checkFrom, h)
 
 -- a field, then an accepted tail
 field-tail : (rs : List Run) (t b a n : ℕ) (bytes rest : List ℕ) (p : Part) → Fits 256 bytes → readField bytes ≡ read p rest → Settled rs t b p
-  → (v : Verdict) → counted p v ≡ valid a n → ((c k : ℕ) → v ≡ valid c k → Fits 256 rest → Tail rs t (suc (lastOf p)) rest c k) → Tail rs t b bytes a n
+    → (v : Verdict) → counted p v ≡ valid a n → ((c k : ℕ) → v ≡ valid c k → Fits 256 rest → Tail rs t (suc (lastOf p)) rest c k) → Tail rs t b bytes a n
 unfolding encode
 field-tail rs t b a n bytes rest p h e s v i next =
     let f = read-field bytes rest p h e in
@@ -230,12 +230,12 @@ field-tail rs t b a n bytes rest p h e s v i next =
       each = λ q m. ⊎-elim (λ (j : q ≡ p). rw j (s .is-true)) (λ k. r .each q k) (List·Memᴰ·cases-cons m);
       same = f .whole ∙ ap (λ l. encodePart p ++ l) (r .same);
       answers = c .4 (r .parts) (r .answers);
-      number = c .3 ∙ ap suc (r .number)
+      number = c .3 ∙ ap suc (r .number);
     }
 
 -- only true certificates are accepted
 accepted-true : (fuel : ℕ) (rs : List Run) (t b at : ℕ) (bytes : List ℕ) (a n : ℕ) → length bytes ≤ fuel → Fits 256 bytes
-  → checkFrom fuel rs t b at bytes ≡ valid a n → Tail rs t b bytes a n
+    → checkFrom fuel rs t b at bytes ≡ valid a n → Tail rs t b bytes a n
 unfolding checkFrom
 accepted-true zero rs t b at [] a n l h e = end-valid rs t b at a n e
 accepted-true zero rs t b at (x ∷ bytes) a n l h e = absurd (omega arith)
@@ -251,9 +251,11 @@ accepted-true (suc fuel) rs t b at (x ∷ bytes) a n l h e =
         let s = part-size p in
         let y = size-pos p in
         omega arith
+
     Next : Type 0
     Next = (p : Part) (rest : List ℕ) (k c : ℕ) → readField (x ∷ bytes) ≡ read p rest → Fits 256 rest
-      → checkFrom fuel rs t (suc (lastOf p)) (at + sizeOf p) rest ≡ valid c k → Tail rs t (suc (lastOf p)) rest c k
+        → checkFrom fuel rs t (suc (lastOf p)) (at + sizeOf p) rest ≡ valid c k → Tail rs t (suc (lastOf p)) rest c k
+
     checking : (p : Part) (rest : List ℕ) (o : Check) → readField (x ∷ bytes) ≡ read p rest → checkPart rs t b at p ≡ o → Next → Tail rs t b (x ∷ bytes) a n
     checking p rest passed i j next =
         field-tail rs t b a n (x ∷ bytes) rest p h i (settled rs t b at p j) (checkFrom fuel rs t (suc (lastOf p)) (at + sizeOf p) rest)
@@ -262,6 +264,7 @@ accepted-true (suc fuel) rs t b at (x ∷ bytes) a n l h e =
     checking p rest (refusal m place) i j next =
         let w : invalid m place ≡ valid a n = rw (i, checkFrom, j) at e in
         absurd (let z : _≡_ {A = ℕ} 0 1 = cc in omega arith)
+
     reading : (r : Reading) → readField (x ∷ bytes) ≡ r → Next → Tail rs t b (x ∷ bytes) a n
     reading unreadable i next =
         let w : invalid 8 at ≡ valid a n = rw (i, checkFrom) at e in
@@ -308,7 +311,7 @@ end-here zero rs t b at e = rw (eq-eqb b pastBin e, atEnd)
 end-here (suc fuel) rs t b at e = rw (eq-eqb b pastBin e, atEnd)
 
 true-accepted : (fuel : ℕ) (rs : List Run) (t b at : ℕ) (ps : List Part) → length rs ≤ 64 → Covers b ps → ((p : Part) → List·Memᴰ p ps → TruePart rs t p)
-  → length (encode ps) ≤ fuel → checkFrom fuel rs t b at (encode ps) ≡ valid (length (answersOf ps)) (length ps)
+    → length (encode ps) ≤ fuel → checkFrom fuel rs t b at (encode ps) ≡ valid (length (answersOf ps)) (length ps)
 unfolding encode answersOf
 true-accepted zero rs t b at [] k c h l = end-here zero rs t b at (covers-nil c)
 true-accepted (suc fuel) rs t b at [] k c h l = end-here (suc fuel) rs t b at (covers-nil c)
@@ -334,7 +337,7 @@ true-accepted (suc fuel) rs t b at (p ∷ ps) k c h l =
 
 -- Demand 2 for the checker, for lists and a threshold that pass the first checks: it accepts a certificate if it is true and only then.
 pub accepts : (numbers ends : List ℕ) (t : ℕ) (certificate : List ℕ) → Fits 256 certificate → firstChecks numbers ends t ≡ passed
-  → Accepts (runs numbers ends) t certificate (check numbers ends t certificate)
+    → Accepts (runs numbers ends) t certificate (check numbers ends t certificate)
 unfolding check runs
 accepts numbers ends t certificate h e =
     let p = first-passed numbers ends t e in
@@ -342,10 +345,10 @@ accepts numbers ends t certificate h e =
     let k = p .few-runs in
     record {
       only-true = λ a c i.
-        let r = accepted-true (length certificate) (runs numbers ends) t firstBin 0 certificate a c (omega arith) h (rw (e, check) at i) in
-        (r .parts, record { covering = r .covering; each = r .each }, r .same, r .answers, r .number);
+          let r = accepted-true (length certificate) (runs numbers ends) t firstBin 0 certificate a c (omega arith) h (rw (e, check) at i) in
+          (r .parts, record { covering = r .covering; each = r .each }, r .same, r .answers, r .number);
       every-true = λ ps c i.
-        rw (e, check)
-        (rw i
-          (true-accepted (length (encode ps)) (runs numbers ends) t firstBin 0 ps (omega arith) (c .covering) (c .each) (omega arith)))
+          rw (e, check)
+          (rw i
+          (true-accepted (length (encode ps)) (runs numbers ends) t firstBin 0 ps (omega arith) (c .covering) (c .each) (omega arith)));
     }

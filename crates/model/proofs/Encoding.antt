@@ -64,12 +64,12 @@ pub record InRange (p : Part) : Type 0 where
   pub named : maskOf p < 256 ^ 8
 
 read-answer : (body : List ℕ) → 12 ≤ length body
-  → readBody 1 12 body ≡ read (answer (numberOf (take 4 body)) (numberOf (take 8 (drop 4 body)))) (drop 12 body)
+    → readBody 1 12 body ≡ read (answer (numberOf (take 4 body)) (numberOf (take 8 (drop 4 body)))) (drop 12 body)
 unfolding readBody
 read-answer body h = rw (le-leb 12 (length body) h, readBody)
 
 read-gap : (body : List ℕ) → 16 ≤ length body
-  → readBody 2 16 body ≡ read (gap (numberOf (take 4 body)) (numberOf (take 4 (drop 4 body))) (numberOf (take 8 (drop 8 body)))) (drop 16 body)
+    → readBody 2 16 body ≡ read (gap (numberOf (take 4 body)) (numberOf (take 4 (drop 4 body))) (numberOf (take 8 (drop 8 body)))) (drop 16 body)
 unfolding readBody
 read-gap body h = rw (le-leb 16 (length body) h, readBody)
 
@@ -112,20 +112,20 @@ unfolding encodePart field bytesOf
 encode-gap f l m = refl
 
 answer-field : (body : List ℕ) → 12 ≤ length body → Fits 256 body
-  → FieldOf (answer (numberOf (take 4 body)) (numberOf (take 8 (drop 4 body)))) (drop 12 body) (1 ∷ (12 ∷ (0 ∷ body)))
+    → FieldOf (answer (numberOf (take 4 body)) (numberOf (take 8 (drop 4 body)))) (drop 12 body) (1 ∷ (12 ∷ (0 ∷ body)))
 answer-field body l h =
     let d = lib.ListN.length-drop 4 body in
     let e₁ = bytes-number 4 body (omega arith) h in
     let e₂ = bytes-number 8 (drop 4 body) (omega arith) (drop-fits 4 body h) in
     record {
       whole =
-        rw (encode-answer (numberOf (take 4 body)) (numberOf (take 8 (drop 4 body))), e₁, e₂, append-assoc (take 4 body) (take 8 (drop 4 body)) (drop 12 body))
-        (ap (λ s. 1 ∷ (12 ∷ (0 ∷ s))) (sym (split-two 4 8 body)));
-      tail = drop-fits 12 body h
+          rw (encode-answer (numberOf (take 4 body)) (numberOf (take 8 (drop 4 body))), e₁, e₂, append-assoc (take 4 body) (take 8 (drop 4 body)) (drop 12 body))
+          (ap (λ s. 1 ∷ (12 ∷ (0 ∷ s))) (sym (split-two 4 8 body)));
+      tail = drop-fits 12 body h;
     }
 
 gap-field : (body : List ℕ) → 16 ≤ length body → Fits 256 body
-  → FieldOf (gap (numberOf (take 4 body)) (numberOf (take 4 (drop 4 body))) (numberOf (take 8 (drop 8 body)))) (drop 16 body) (2 ∷ (16 ∷ (0 ∷ body)))
+    → FieldOf (gap (numberOf (take 4 body)) (numberOf (take 4 (drop 4 body))) (numberOf (take 8 (drop 8 body)))) (drop 16 body) (2 ∷ (16 ∷ (0 ∷ body)))
 gap-field body l h =
     let d₄ = lib.ListN.length-drop 4 body in
     let d₈ = lib.ListN.length-drop 8 body in
@@ -134,11 +134,16 @@ gap-field body l h =
     let e₃ = bytes-number 8 (drop 8 body) (omega arith) (drop-fits 8 body h) in
     record {
       whole =
-        rw (encode-gap (numberOf (take 4 body)) (numberOf (take 4 (drop 4 body))) (numberOf (take 8 (drop 8 body))), e₁, e₂, e₃,
+          rw (
+            encode-gap (numberOf (take 4 body)) (numberOf (take 4 (drop 4 body))) (numberOf (take 8 (drop 8 body))),
+            e₁,
+            e₂,
+            e₃,
             append-assoc (take 4 body) (take 4 (drop 4 body) ++ take 8 (drop 8 body)) (drop 16 body),
-            append-assoc (take 4 (drop 4 body)) (take 8 (drop 8 body)) (drop 16 body))
-        (ap (λ s. 2 ∷ (16 ∷ (0 ∷ s))) (sym (split-three 4 4 8 body)));
-      tail = drop-fits 16 body h
+            append-assoc (take 4 (drop 4 body)) (take 8 (drop 8 body)) (drop 16 body),
+          )
+          (ap (λ s. 2 ∷ (16 ∷ (0 ∷ s))) (sym (split-three 4 4 8 body)));
+      tail = drop-fits 16 body h;
     }
 
 -- two bytes that give a small number
@@ -148,42 +153,42 @@ two-bytes x y n e l h = (omega arith, omega arith)
 
 -- what a body that reads is
 body-read : (tag x y size : ℕ) (body rest : List ℕ) (p : Part) → readBody tag size body ≡ read p rest → Fits 256 body → numberOf (x ∷ (y ∷ [])) ≡ size → x < 256
-  → FieldOf p rest (tag ∷ (x ∷ (y ∷ body)))
+    → FieldOf p rest (tag ∷ (x ∷ (y ∷ body)))
 unfolding readBody
 body-read tag x y size body rest p e h i u =
     ⊎-elim
     (λ (q : (eqb tag 1 && (eqb size 12 && leb 12 (length body))) ≡ true).
-      let a = and-true (eqb tag 1) (eqb size 12 && leb 12 (length body)) q in
-      let b = and-true (eqb size 12) (leb 12 (length body)) (a .1) in
-      let t : tag ≡ 1 = eqb-true tag 1 (a .0) in
-      let n = two-bytes x y 12 (i ∙ eqb-true size 12 (b .0)) (omega arith) u in
-      let r : read (answer (numberOf (take 4 body)) (numberOf (take 8 (drop 4 body)))) (drop 12 body) ≡ read p rest = rw (q, readBody) at e in
-      let f = answer-field body (leb-true 12 (length body) (b .1)) h in
-      moved t (n .0) (n .1) r f)
+    let a = and-true (eqb tag 1) (eqb size 12 && leb 12 (length body)) q in
+    let b = and-true (eqb size 12) (leb 12 (length body)) (a .1) in
+    let t : tag ≡ 1 = eqb-true tag 1 (a .0) in
+    let n = two-bytes x y 12 (i ∙ eqb-true size 12 (b .0)) (omega arith) u in
+    let r : read (answer (numberOf (take 4 body)) (numberOf (take 8 (drop 4 body)))) (drop 12 body) ≡ read p rest = rw (q, readBody) at e in
+    let f = answer-field body (leb-true 12 (length body) (b .1)) h in
+    moved t (n .0) (n .1) r f)
     (λ (q : (eqb tag 1 && (eqb size 12 && leb 12 (length body))) ≡ false).
-      ⊎-elim
-      (λ (o : (eqb tag 2 && (eqb size 16 && leb 16 (length body))) ≡ true).
-        let a = and-true (eqb tag 2) (eqb size 16 && leb 16 (length body)) o in
-        let b = and-true (eqb size 16) (leb 16 (length body)) (a .1) in
-        let t : tag ≡ 2 = eqb-true tag 2 (a .0) in
-        let n = two-bytes x y 16 (i ∙ eqb-true size 16 (b .0)) (omega arith) u in
-        let r : read (gap (numberOf (take 4 body)) (numberOf (take 4 (drop 4 body))) (numberOf (take 8 (drop 8 body)))) (drop 16 body) ≡ read p rest = rw (q, readBody, o) at e in
-        let f = gap-field body (leb-true 16 (length body) (b .1)) h in
-        moved t (n .0) (n .1) r f)
-      (λ (o : (eqb tag 2 && (eqb size 16 && leb 16 (length body))) ≡ false).
-        let r : unreadable ≡ read p rest = rw (q, readBody, o) at e in
-        absurd (let w : _≡_ {A = ℕ} 0 1 = cc in omega arith))
-      (both (eqb tag 2 && (eqb size 16 && leb 16 (length body)))))
+    ⊎-elim
+    (λ (o : (eqb tag 2 && (eqb size 16 && leb 16 (length body))) ≡ true).
+    let a = and-true (eqb tag 2) (eqb size 16 && leb 16 (length body)) o in
+    let b = and-true (eqb size 16) (leb 16 (length body)) (a .1) in
+    let t : tag ≡ 2 = eqb-true tag 2 (a .0) in
+    let n = two-bytes x y 16 (i ∙ eqb-true size 16 (b .0)) (omega arith) u in
+    let r : read (gap (numberOf (take 4 body)) (numberOf (take 4 (drop 4 body))) (numberOf (take 8 (drop 8 body)))) (drop 16 body) ≡ read p rest = rw (q, readBody, o) at e in
+    let f = gap-field body (leb-true 16 (length body) (b .1)) h in
+    moved t (n .0) (n .1) r f)
+    (λ (o : (eqb tag 2 && (eqb size 16 && leb 16 (length body))) ≡ false).
+    let r : unreadable ≡ read p rest = rw (q, readBody, o) at e in
+    absurd (let w : _≡_ {A = ℕ} 0 1 = cc in omega arith))
+    (both (eqb tag 2 && (eqb size 16 && leb 16 (length body)))))
     (both (eqb tag 1 && (eqb size 12 && leb 12 (length body))))
   where
     moved : {a b : ℕ} {q : Part} {s : List ℕ} → tag ≡ a → x ≡ b → y ≡ 0 → read q s ≡ read p rest → FieldOf q s (a ∷ (b ∷ (0 ∷ body)))
-      → FieldOf p rest (tag ∷ (x ∷ (y ∷ body)))
+        → FieldOf p rest (tag ∷ (x ∷ (y ∷ body)))
     moved {a} {b} {q} {s} α β γ ρ f =
         let π : q ≡ p = cc in
         let ω : s ≡ rest = cc in
         record {
           whole = (λ j. α j ∷ (β j ∷ (γ j ∷ body))) ∙ (f .whole ∙ ap₂ (λ k l. encodePart k ++ l) π ω);
-          tail = subst (λ k. Fits 256 k) ω (f .tail)
+          tail = subst (λ k. Fits 256 k) ω (f .tail);
         }
 
 pub read-field : (bytes rest : List ℕ) (p : Part) → Fits 256 bytes → readField bytes ≡ read p rest → FieldOf p rest bytes

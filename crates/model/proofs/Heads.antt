@@ -6,7 +6,7 @@ use lib.Dec.{ltb, leb, eqb}
 use lib.ListN.{length, getD}
 use mathlib.Core.Bool.{Bool, true, false}
 use mathlib.Core.List.{List, [], _∷_, List·Memᴰ, List·Memᴰ·head, List·Memᴰ·tail, List·Memᴰ·not-nil, List·Memᴰ·cases-cons}
-use mathlib.Core.Logic.{_⊎_, inl, inr, ⊎-elim}
+use mathlib.Core.Logic.{_⊎_, inl, inr, ⊎-elim, _↔_}
 use mathlib.Core.Path.{_≡_, refl, sym, ap, _∙_, subst}
 use native.Mathlib.Nat.{min-eq-left, min-eq-right, le-antisymm}
 use native.Mathlib.Omega.{arith}
@@ -159,8 +159,25 @@ few-below t rs l (suc x) h =
     (λ (q : count (λ r. eqb (head r) x) rs ≤ 0). let j = no-head x rs (omega arith) in omega arith)
     (lt-or-le 0 (count (λ r. eqb (head r) x) rs)))
 
+below-mono : {x y : ℕ} → x < y → (rs : List Run) → atMost x rs ≤ below y rs
+unfolding atMost below
+below-mono {x} {y} h rs = count-le _ _ rs (λ r m q. let i = leb-true (head r) x q in lt-ltb (head r) y (omega arith))
+
 pub tth-few : (t : ℕ) (rs : List Run) → 0 < t → below (tthHead t rs) rs < t
 tth-few t rs l = few-below t rs l (tthHead t rs) (omega arith)
+
+-- it is past the last bin exactly when fewer than t runs have a head
+pub tth-none : (t : ℕ) (rs : List Run) → Heads rs → 0 < t → t ≤ length rs → (tthHead t rs ≡ pastBin) ↔ (below pastBin rs < t)
+tth-none t rs h l k = (
+  λ e. subst (λ (x : ℕ). below x rs < t) e (tth-few t rs l),
+  λ q.
+      let i = tth-past t rs in
+      let j = tth-enough t rs h k in
+      ⊎-elim
+      (λ (u : tthHead t rs < pastBin). let w = below-mono u rs in absurd (omega arith))
+      (λ (u : pastBin ≤ tthHead t rs). le-antisymm i u)
+      (lt-or-le (tthHead t rs) pastBin),
+)
 
 -- A list of numbers in rising order, equal ones each counted, and how many of them are not above h.
 pub data Ordered : ℕ → List ℕ → Type 0 where

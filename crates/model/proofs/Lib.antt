@@ -13,6 +13,7 @@ pub mod From
 pub mod Heads
 pub mod Instances
 pub mod Masks
+pub mod Rounds
 pub mod Searching
 pub mod Tests
 pub mod Truth

@@ -140,6 +140,7 @@ equal v rs = count (λ r. eqb (head r) v) rs
 
 -- v is the t-th smallest head at the floor f
 pub record Ahead (rs : List Run) (t f v : ℕ) : Type 0 where
+  pub tth : tthHead t (at f rs) ≡ v
   pub floor : f ≤ v
   pub bin : v < pastBin
   pub enough : t ≤ atMost v (at f rs)
@@ -165,7 +166,7 @@ pub data Walked (rs : List Run) (t : ℕ) : ℕ → List Event → Type 0 where
       → Walked rs t f (wrote (answerAt rs f) ∷ es)
 
 -- where every head is at least the floor, a search for the floor is none
-no-searches : (v : ℕ) (rs : List Run) → ((r : Run) → List·Memᴰ r rs → v ≤ head r) → searches v rs ≡ []
+pub no-searches : (v : ℕ) (rs : List Run) → ((r : Run) → List·Memᴰ r rs → v ≤ head r) → searches v rs ≡ []
 unfolding searches searchIn
 no-searches v [] h = refl
 no-searches v (r ∷ rs) h =
@@ -177,31 +178,31 @@ all-equal f rs h =
     count-le _ _ rs (λ r m q. let i = leb-true (head r) f q in let j = h r m in eq-eqb (head r) f (omega arith))
 
 -- the ways that a round goes on, after the searches
-settled-hit : (next : ℕ → List Run → List Event) (t v : ℕ) (rs : List Run) → t ≤ equal v (at v rs) → v < lastBin
+pub settled-hit : (next : ℕ → List Run → List Event) (t v : ℕ) (rs : List Run) → t ≤ equal v (at v rs) → v < lastBin
     → settle next t v (at v rs) ≡ wrote (answerAt rs v) ∷ next (suc v) (map (movedOn v) (at v rs))
 unfolding settle equal answerAt
 settled-hit next t v rs h l =
     let n : v ≢ lastBin = omega arith in
     rw (le-leb t (count (λ r. eqb (head r) v) (at v rs)) h, ne-eqb v lastBin n, settle)
 
-settled-last : (next : ℕ → List Run → List Event) (t v : ℕ) (rs : List Run) → t ≤ equal v (at v rs) → v ≡ lastBin
+pub settled-last : (next : ℕ → List Run → List Event) (t v : ℕ) (rs : List Run) → t ≤ equal v (at v rs) → v ≡ lastBin
     → settle next t v (at v rs) ≡ wrote (answerAt rs v) ∷ []
 unfolding settle equal answerAt
 settled-last next t v rs h l =
     rw (le-leb t (count (λ r. eqb (head r) v) (at v rs)) h, eq-eqb v lastBin l, settle)
 
-settled-pass : (next : ℕ → List Run → List Event) (t v : ℕ) (rs : List Run) → equal v (at v rs) < t
+pub settled-pass : (next : ℕ → List Run → List Event) (t v : ℕ) (rs : List Run) → equal v (at v rs) < t
     → settle next t v (at v rs) ≡ next v (at v rs)
 unfolding settle equal
 settled-pass next t v rs h = rw (lt-leb t (count (λ r. eqb (head r) v) (at v rs)) h, settle)
 
 -- a round with too few heads, and one with heads enough
-round-stop : (next : ℕ → List Run → List Event) (t f : ℕ) (rs : List Run) → below pastBin (at f rs) < t
+pub round-stop : (next : ℕ → List Run → List Event) (t f : ℕ) (rs : List Run) → below pastBin (at f rs) < t
     → round next t f (at f rs) ≡ wrote (gapAt rs f pastBin lastBin) ∷ []
 unfolding round below gapAt
 round-stop next t f rs h = rw (lt-ltb (count (λ r. ltb (head r) pastBin) (at f rs)) t h, round)
 
-round-gap : (next : ℕ → List Run → List Event) (t f : ℕ) (rs : List Run) → t ≤ below pastBin (at f rs) → f < tthHead t (at f rs)
+pub round-gap : (next : ℕ → List Run → List Event) (t f : ℕ) (rs : List Run) → t ≤ below pastBin (at f rs) → f < tthHead t (at f rs)
     → round next t f (at f rs)
     ≡ wrote (gapAt rs f (tthHead t (at f rs)) (tthHead t (at f rs) - 1))
     ∷ (searches (tthHead t (at f rs)) (at f rs) ++ settle next t (tthHead t (at f rs)) (map (searched (tthHead t (at f rs))) (at f rs)))
@@ -209,7 +210,7 @@ unfolding round below gapAt
 round-gap next t f rs h l =
     rw (le-ltb (count (λ r. ltb (head r) pastBin) (at f rs)) t h, round) (rw (lt-ltb f (tthHead t (at f rs)) l))
 
-round-here : (next : ℕ → List Run → List Event) (t f : ℕ) (rs : List Run) → t ≤ below pastBin (at f rs) → tthHead t (at f rs) ≡ f
+pub round-here : (next : ℕ → List Run → List Event) (t f : ℕ) (rs : List Run) → t ≤ below pastBin (at f rs) → tthHead t (at f rs) ≡ f
     → round next t f (at f rs) ≡ searches f (at f rs) ++ settle next t f (map (searched f) (at f rs))
 unfolding round below
 round-here next t f rs h e =
@@ -223,6 +224,7 @@ ahead rs t f g p k l h =
     let small = tth-past t (at f rs) in
     let size = at-length f rs in
     record {
+      tth = refl;
       floor = tth-ge t f (at f rs) (omega arith) (at-least f rs g (omega arith));
       bin = before-past (tthHead t (at f rs)) small few;
       enough = tth-enough t (at f rs) (at-heads f rs g) (omega arith);
