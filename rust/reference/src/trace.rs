@@ -1,0 +1,45 @@
+//! The whole walk, with nothing that runs out.
+
+use crate::certificate::Part;
+use crate::first_checks::{first_checks, split_runs, Refusal};
+use crate::walk::{walk, Recorder};
+
+/// What [`trace()`] returns.
+#[derive(Clone, Debug, PartialEq, Eq)]
+pub struct Trace {
+    /// The parts of the whole certificate.
+    pub parts: Vec<Part>,
+    /// The probes made in each run.
+    pub probes: Vec<u64>,
+}
+
+/// Returns the parts of the whole walk and its probes in each run, or the
+/// first refusal if the runs or the threshold fail the first checks.
+pub fn trace(numbers: &[u32], ends: &[u32], threshold: u32) -> Result<Trace, Refusal> {
+    first_checks(numbers, ends, threshold)?;
+    let k = ends.len();
+    let runs = split_runs(numbers, ends);
+    let mut trace = Trace {
+        parts: Vec::new(),
+        probes: vec![0; k],
+    };
+    walk(&runs, k, threshold as usize, &mut trace).expect("a trace ends no walk");
+    Ok(trace)
+}
+
+impl Recorder for Trace {
+    fn probe(&mut self, run: usize) -> Result<(), u8> {
+        self.probes[run] += 1;
+        Ok(())
+    }
+
+    fn answer(&mut self, value: u32, mask: u64) -> Result<(), u8> {
+        self.parts.push(Part::Answer { value, mask });
+        Ok(())
+    }
+
+    fn gap(&mut self, first: u32, last: u32, mask: u64) -> Result<(), u8> {
+        self.parts.push(Part::Gap { first, last, mask });
+        Ok(())
+    }
+}

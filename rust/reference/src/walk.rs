@@ -1,0 +1,104 @@
+//! The walk of document 01, apart from where its parts and probes go.
+
+use crate::first_checks::MAX_RUNS;
+use crate::heads::Heads;
+use crate::mask::{all_runs, bit, named_runs};
+
+/// Receives what a walk does, in order. An error is the number of the refusal
+/// that ends the walk there.
+pub(crate) trait Recorder {
+    /// One more probe is due, in the given run.
+    fn probe(&mut self, run: usize) -> Result<(), u8>;
+    /// An answer is due.
+    fn answer(&mut self, value: u32, mask: u64) -> Result<(), u8>;
+    /// A gap is due.
+    fn gap(&mut self, first: u32, last: u32, mask: u64) -> Result<(), u8>;
+}
+
+/// Walks the first `k` of the runs, which pass the first checks with
+/// `threshold`. Returns the number of the refusal if the recorder ends it.
+pub(crate) fn walk<R: Recorder>(
+    runs: &[&[u32]; MAX_RUNS],
+    k: usize,
+    threshold: usize,
+    recorder: &mut R,
+) -> Result<(), u8> {
+    let mut position = [0; MAX_RUNS];
+    let mut heads = Heads::new(&runs[..k]);
+    let mut floor = 0;
+    loop {
+        // Steps 1 and 2.
+        let Some(v) = heads.nth_smallest(threshold) else {
+            let without_head = all_runs(k) & !heads.runs();
+            return recorder.gap(floor, u32::MAX, without_head);
+        };
+        let (below, at) = heads.runs_below_and_at(v);
+
+        // Step 3.
+        if floor < v {
+            recorder.gap(floor, v - 1, all_runs(k) & !below)?;
+        }
+
+        // Step 4.
+        let mut holding = at;
+        for i in named_runs(below) {
+            position[i] = search(runs[i], position[i], v, || recorder.probe(i))?;
+            if runs[i].get(position[i]) == Some(&v) {
+                holding |= bit(i);
+            }
+        }
+
+        // Steps 5 and 6.
+        let mut moved = below;
+        if holding.count_ones() as usize >= threshold {
+            recorder.answer(v, holding)?;
+            if v == u32::MAX {
+                return Ok(());
+            }
+            for i in named_runs(holding) {
+                position[i] += 1;
+            }
+            moved |= holding;
+            floor = v + 1;
+        } else {
+            floor = v;
+        }
+        heads.renew(moved, |i| runs[i].get(position[i]).copied());
+    }
+}
+
+/// Returns the first place of `run` after `position` whose number is at least
+/// `v`, or the length of the run. The number at `position` is below `v`.
+/// `probe` is called before each comparison and may end the search.
+fn search(
+    run: &[u32],
+    position: usize,
+    v: u32,
+    mut probe: impl FnMut() -> Result<(), u8>,
+) -> Result<usize, u8> {
+    // The number at `low` is below v; the one at `high`, if any, is not.
+    let mut low = position;
+    let mut step = 1;
+    let mut high = loop {
+        let place = position + step;
+        let Some(&x) = run.get(place) else {
+            break run.len();
+        };
+        probe()?;
+        if x >= v {
+            break place;
+        }
+        low = place;
+        step *= 2;
+    };
+    while high - low > 1 {
+        let middle = low + (high - low) / 2;
+        probe()?;
+        if run[middle] < v {
+            low = middle;
+        } else {
+            high = middle;
+        }
+    }
+    Ok(high)
+}

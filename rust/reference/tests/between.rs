@@ -1,0 +1,76 @@
+//! The numbers of one list between two numbers.
+
+mod common;
+
+use common::{Random, M};
+use reference::between;
+
+/// Compares the part of the list with a filter over it.
+fn agrees(list: &[u32], first: u32, last: u32) {
+    let range = between(list, first, last);
+    let rises = (1..list.len()).all(|i| list[i - 1] < list[i]);
+    let expected: Vec<u32> = list
+        .iter()
+        .copied()
+        .filter(|&x| rises && first <= x && x <= last)
+        .collect();
+    assert_eq!(list[range], expected, "{list:?} from {first} to {last}");
+}
+
+#[test]
+fn both_ends_belong_to_it() {
+    let list = [2, 5, 9];
+    assert_eq!(between(&list, 2, 9), 0..3);
+    assert_eq!(between(&list, 5, 5), 1..2);
+    assert_eq!(between(&list, 3, 8), 1..2);
+    assert_eq!(between(&list, 0, M), 0..3);
+    assert_eq!(between(&[0, M], 0, 0), 0..1);
+    assert_eq!(between(&[0, M], M, M), 1..2);
+}
+
+#[test]
+fn an_empty_part() {
+    let list = [2, 5, 9];
+    for (first, last) in [(3, 4), (0, 1), (10, M), (9, 2), (5, 4), (M, 0)] {
+        assert!(between(&list, first, last).is_empty());
+    }
+    assert!(between(&[], 0, M).is_empty());
+}
+
+#[test]
+fn a_list_that_does_not_rise() {
+    for list in [[3, 3], [4, 3], [M, 0]] {
+        assert!(between(&list, 0, M).is_empty());
+    }
+    // The fault may lie outside the numbers asked for.
+    assert!(between(&[1, 2, 3, 9, 9], 1, 3).is_empty());
+    assert!(between(&[9, 1, 2, 3], 1, 3).is_empty());
+}
+
+#[test]
+fn no_limit_on_the_length() {
+    let list: Vec<u32> = (0..1_100_000).map(|x| 2 * x).collect();
+    assert_eq!(between(&list, 1, 2_199_997), 1..1_099_999);
+}
+
+#[test]
+fn random_lists() {
+    let mut random = Random(1);
+    for _ in 0..20_000 {
+        let mut list = random.runs(1, 12).remove(0);
+        if random.one_in(8) && list.len() > 1 {
+            let i = random.below(list.len());
+            list[i] = random.next() as u32;
+        }
+        let mut pick = || match random.below(3) {
+            0 => random.next() as u32,
+            1 => random.below(40) as u32,
+            _ if list.is_empty() => M,
+            _ => list[random.below(list.len())]
+                .wrapping_sub(1)
+                .wrapping_add(random.below(3) as u32),
+        };
+        let (first, last) = (pick(), pick());
+        agrees(&list, first, last);
+    }
+}

@@ -1,0 +1,495 @@
+//! Small inputs of every kind and random ones: the walk against a plain
+//! second form of it, against counting, against the definition of truth and
+//! against the fewest parts possible.
+
+mod common;
+
+use common::{counted_answers, gap, hit, lay_out, slices, PlainWalk, Random, M};
+use reference::{
+    check, decode, digits, encode, fewest_parts, is_true, probe_bound, query, trace, Outcome, Part,
+    Verdict,
+};
+
+/// Whether to compare with the fewest parts, which takes long for many numbers.
+#[derive(Clone, Copy, PartialEq)]
+enum Size {
+    Small,
+    Large,
+}
+
+/// Compares a whole walk with everything known about it.
+fn whole_walk(runs: &[Vec<u32>], threshold: u32, size: Size) {
+    let (numbers, ends) = lay_out(runs);
+    let plain = PlainWalk::new(runs, threshold);
+    let parts = plain.parts();
+    let expected_answers = counted_answers(runs, threshold);
+    let context = || format!("threshold {threshold}, runs {runs:?}");
+
+    let whole = trace(&numbers, &ends, threshold).unwrap();
+    assert_eq!(whole.parts, parts, "{}", context());
+    let fewest = match size {
+        Size::Small => fewest_parts(&slices(runs), threshold),
+        Size::Large => parts.len(),
+    };
+    assert_eq!(parts.len(), fewest, "{}", context());
+    assert!(plain.full_rounds <= parts.len(), "{}", context());
+    for (i, run) in runs.iter().enumerate() {
+        assert_eq!(whole.probes[i], plain.probes_in(i), "{}", context());
+        let bound = 2 * fewest as u64 * u64::from(digits(run.len() as u64));
+        assert!(whole.probes[i] <= bound, "{}", context());
+    }
+
+    // An allowance of the bound never ends as used up.
+    let bytes = encode(&parts);
+    let mut answers = vec![0; expected_answers.len()];
+    let mut certificate = vec![0; bytes.len()];
+    let outcome = query(
+        &numbers,
+        &ends,
+        threshold,
+        probe_bound(&ends, fewest as u64) as u32,
+        &mut answers,
+        &mut certificate,
+    );
+    let counts = (expected_answers.len() as u64, parts.len() as u64);
+    assert_eq!(
+        outcome,
+        Outcome::Accepted {
+            answers: counts.0,
+            parts: counts.1,
+            bytes: bytes.len() as u64,
+            probes: plain.probes(),
+        }
+    );
+    assert_eq!(answers, expected_answers, "{}", context());
+    assert_eq!(certificate, bytes, "{}", context());
+
+    assert!(is_true(&slices(runs), threshold, &parts), "{}", context());
+    assert_eq!(decode(&certificate).unwrap(), parts);
+    assert_eq!(
+        check(&numbers, &ends, threshold, &certificate),
+        Verdict::Valid {
+            answers: counts.0,
+            parts: counts.1
+        }
+    );
+}
+
+/// All runs over four bins, two at each end of the line, up to three runs.
+#[test]
+fn all_small_inputs() {
+    let bins = [0, 1, M - 1, M];
+    let subset = |chosen: usize| -> Vec<u32> {
+        (0..4)
+            .filter(|i| chosen >> i & 1 == 1)
+            .map(|i| bins[i])
+            .collect()
+    };
+    for k in 1..=3 {
+        for choice in 0..16_usize.pow(k) {
+            let runs: Vec<Vec<u32>> = (0..k).map(|i| subset(choice >> (4 * i) & 15)).collect();
+            for threshold in 1..=k {
+                whole_walk(&runs, threshold, Size::Small);
+            }
+        }
+    }
+}
+
+#[test]
+fn random_small_walks() {
+    let mut random = Random(11);
+    for _ in 0..60_000 {
+        let runs = random.runs(6, 8);
+        let threshold = random.threshold(&runs);
+        whole_walk(&runs, threshold, Size::Small);
+    }
+}
+
+#[test]
+fn random_medium_walks() {
+    let mut random = Random(12);
+    for _ in 0..150 {
+        let runs = random.runs(5, 40);
+        let threshold = random.threshold(&runs);
+        whole_walk(&runs, threshold, Size::Small);
+    }
+}
+
+#[test]
+fn random_large_walks() {
+    let mut random = Random(13);
+    for _ in 0..150 {
+        let runs = random.runs(64, 150);
+        let threshold = random.threshold(&runs);
+        whole_walk(&runs, threshold, Size::Large);
+    }
+    for _ in 0..50 {
+        let mut runs = random.runs(2, 5_000);
+        runs.extend(random.runs(3, 20));
+        let threshold = random.threshold(&runs);
+        whole_walk(&runs, threshold, Size::Large);
+    }
+}
+
+/// A query on lent buffers filled with noise, with all of their contents.
+struct Stopping<'a> {
+    runs: &'a [Vec<u32>],
+    threshold: u32,
+    plain: PlainWalk,
+    noise: Vec<u8>,
+}
+
+impl Stopping<'_> {
+    fn compare(&self, allowance: u32, answer_room: usize, byte_room: usize) {
+        let (numbers, ends) = lay_out(self.runs);
+        let (outcome, written, bytes) = self.plain.stopped(allowance, answer_room, byte_room);
+        let mut answers: Vec<u32> = (0..answer_room).map(|i| self.noise[i].into()).collect();
+        let mut certificate: Vec<u8> = self.noise[..byte_room].to_vec();
+        let mut expected_answers = answers.clone();
+        let mut expected_certificate = certificate.clone();
+        expected_answers[..written.len()].copy_from_slice(&written);
+        expected_certificate[..bytes.len()].copy_from_slice(&bytes);
+        let found = query(
+            &numbers,
+            &ends,
+            self.threshold,
+            allowance,
+            &mut answers,
+            &mut certificate,
+        );
+        let context = || {
+            format!(
+                "allowance {allowance}, room {answer_room} and {byte_room}, threshold {}, runs {:?}",
+                self.threshold, self.runs
+            )
+        };
+        assert_eq!(found, outcome, "{}", context());
+        assert_eq!(answers, expected_answers, "{}", context());
+        assert_eq!(certificate, expected_certificate, "{}", context());
+
+        // What stands is a beginning of the whole.
+        let parts = self.plain.parts();
+        assert!(encode(&parts).starts_with(&bytes));
+        let whole = counted_answers(self.runs, self.threshold);
+        assert!(whole.starts_with(&written));
+    }
+}
+
+/// Every allowance with every size of both buffers.
+#[test]
+fn stopping_early_everywhere() {
+    let mut random = Random(14);
+    for _ in 0..100 {
+        let runs = random.runs(4, 5);
+        let threshold = random.threshold(&runs);
+        let plain = PlainWalk::new(&runs, threshold);
+        let probes = plain.probes() as u32;
+        let bytes = encode(&plain.parts()).len();
+        let answers = counted_answers(&runs, threshold).len();
+        let stopping = Stopping {
+            runs: &runs,
+            threshold,
+            plain,
+            noise: (0..bytes + 40).map(|_| random.next() as u8).collect(),
+        };
+        for allowance in 0..=probes + 1 {
+            for answer_room in 0..=answers + 1 {
+                for byte_room in 0..=bytes + 2 {
+                    stopping.compare(allowance, answer_room, byte_room);
+                }
+            }
+        }
+    }
+}
+
+/// Every allowance, and every size of one buffer at a time, on larger inputs.
+#[test]
+fn stopping_early_one_by_one() {
+    let mut random = Random(15);
+    for _ in 0..200 {
+        let runs = random.runs(9, 12);
+        let threshold = random.threshold(&runs);
+        let plain = PlainWalk::new(&runs, threshold);
+        let probes = plain.probes() as u32;
+        let bytes = encode(&plain.parts()).len();
+        let answers = counted_answers(&runs, threshold).len();
+        let stopping = Stopping {
+            runs: &runs,
+            threshold,
+            plain,
+            noise: (0..bytes + answers + 40)
+                .map(|_| random.next() as u8)
+                .collect(),
+        };
+        for allowance in 0..=probes + 1 {
+            stopping.compare(allowance, answers, bytes);
+        }
+        for answer_room in 0..=answers + 1 {
+            stopping.compare(M, answer_room, bytes + 7);
+        }
+        for byte_room in 0..=bytes + 20 {
+            stopping.compare(probes, answers + 1, byte_room);
+        }
+        for _ in 0..50 {
+            let allowance = random.below(probes as usize + 2) as u32;
+            let answer_room = random.below(answers + 2);
+            let byte_room = random.below(bytes + 20);
+            stopping.compare(allowance, answer_room, byte_room);
+        }
+    }
+}
+
+/// Certificates of other writers: gaps cut further, masks made smaller, and
+/// often something wrong.
+fn rewritten(random: &mut Random, runs: &[Vec<u32>], threshold: u32) -> Vec<Part> {
+    let k = runs.len() as u32;
+    let mut parts = Vec::new();
+    for part in PlainWalk::new(runs, threshold).parts() {
+        match part {
+            Part::Answer { value, mask } => {
+                parts.push(hit(value, fewer(random, mask, threshold)));
+            }
+            Part::Gap { first, last, mask } => {
+                let mut start = first;
+                while start < last && random.one_in(2) {
+                    let room = (last - start) as usize;
+                    let cut = start + random.below(room.min(20)) as u32;
+                    parts.push(gap(start, cut, fewer(random, mask, k - threshold + 1)));
+                    start = cut + 1;
+                }
+                parts.push(gap(start, last, fewer(random, mask, k - threshold + 1)));
+            }
+        }
+    }
+    parts
+}
+
+/// The mask without some of its bits, at least `needed` left.
+fn fewer(random: &mut Random, mut mask: u64, needed: u32) -> u64 {
+    for i in 0..64 {
+        if mask.count_ones() > needed && random.one_in(2) {
+            mask &= !(1 << i);
+        }
+    }
+    mask
+}
+
+/// Changes one part a little.
+fn damage_part(random: &mut Random, parts: &mut Vec<Part>) {
+    let i = random.below(parts.len());
+    let change = random.below(3) as u32;
+    match random.below(7) {
+        0 => {
+            parts.remove(i);
+        }
+        1 => parts.insert(i, parts[i]),
+        2 => {
+            let j = random.below(parts.len());
+            parts.swap(i, j);
+        }
+        3 if i + 1 < parts.len() => {
+            // Joins two parts, which keeps the line covered.
+            let mask = parts[i].mask() & parts[i + 1].mask();
+            let joined = gap(parts[i].first(), parts[i + 1].last(), mask);
+            parts.splice(i..=i + 1, [joined]);
+        }
+        _ => match &mut parts[i] {
+            Part::Answer { value, mask } => match random.below(3) {
+                0 => *value = value.wrapping_add(change).wrapping_sub(1),
+                1 => *mask ^= 1 << random.below(8),
+                _ => parts[i] = gap(parts[i].first(), parts[i].first(), parts[i].mask()),
+            },
+            Part::Gap { first, last, mask } => match random.below(4) {
+                0 => *first = first.wrapping_add(change).wrapping_sub(1),
+                1 => *last = last.wrapping_add(change).wrapping_sub(1),
+                2 if *first == *last => parts[i] = hit(parts[i].first(), parts[i].mask()),
+                _ => *mask ^= 1 << random.below(8),
+            },
+        },
+    }
+}
+
+/// Changes a few bytes.
+fn damage_bytes(random: &mut Random, bytes: &mut Vec<u8>) {
+    match random.below(4) {
+        0 => bytes.truncate(random.below(bytes.len() + 1)),
+        1 => bytes.push(random.below(4) as u8),
+        2 if !bytes.is_empty() => {
+            let i = random.below(bytes.len());
+            bytes[i] ^= 1 << random.below(8);
+        }
+        _ => {
+            let i = random.below(bytes.len() + 1);
+            bytes.insert(i, random.next() as u8);
+        }
+    }
+}
+
+/// The rest of a true certificate that begins at bin `next`.
+fn rest_from(whole: &[Part], next: u64) -> Vec<Part> {
+    whole
+        .iter()
+        .filter(|part| u64::from(part.last()) >= next)
+        .map(|part| match *part {
+            Part::Gap { first, last, mask } => gap(first.max(next as u32), last, mask),
+            answer => answer,
+        })
+        .collect()
+}
+
+/// Compares a verdict with the definition of truth. On a refusal all before
+/// the place must be the beginning of a true certificate, and the field at
+/// the place must not be.
+fn compare_verdict(runs: &[Vec<u32>], threshold: u32, bytes: &[u8]) -> Verdict {
+    let (numbers, ends) = lay_out(runs);
+    let runs = slices(runs);
+    let verdict = check(&numbers, &ends, threshold, bytes);
+    let parts = decode(bytes);
+    let truth = |parts: &[Part]| is_true(&runs, threshold, parts);
+    match verdict {
+        Verdict::Valid { answers, parts: n } => {
+            let parts = parts.unwrap();
+            assert!(truth(&parts));
+            assert_eq!(n, parts.len() as u64);
+            let is_answer = |part: &&Part| matches!(part, Part::Answer { .. });
+            assert_eq!(answers, parts.iter().filter(is_answer).count() as u64);
+        }
+        Verdict::Invalid { number, place } => {
+            assert!(!parts.is_some_and(|parts| truth(&parts)));
+            let whole = trace(&numbers, &ends, threshold).unwrap().parts;
+            let next = |parts: &[Part]| parts.last().map_or(0, |part| u64::from(part.last()) + 1);
+            let before = decode(&bytes[..place as usize]).unwrap();
+            let uncovered = next(&before);
+            let completed = [before.clone(), rest_from(&whole, uncovered)].concat();
+            assert!(truth(&completed));
+
+            let at = &bytes[place as usize..];
+            let field = [15, 19]
+                .into_iter()
+                .filter_map(|length| decode(at.get(..length)?))
+                .find(|parts| parts.len() == 1)
+                .map(|parts| parts[0]);
+            let Some(part) = field else {
+                assert_eq!(number, if at.is_empty() { 9 } else { 8 });
+                return verdict;
+            };
+            let with_it = [before, vec![part]].concat();
+            let completed = [with_it.clone(), rest_from(&whole, next(&with_it))].concat();
+            assert!(!truth(&completed));
+            if u64::from(part.first()) != uncovered || part.last() < part.first() {
+                assert_eq!(number, 9);
+                return verdict;
+            }
+            let names = (0..64).filter(|i| part.mask() >> i & 1 == 1);
+            let (k, t) = (runs.len() as u32, threshold);
+            let needed = match part {
+                Part::Answer { .. } => t,
+                Part::Gap { .. } => k - t + 1,
+            };
+            let named_well = names.clone().all(|i| i < k) && names.count() as u32 >= needed;
+            assert_eq!(number, if named_well { 11 } else { 10 });
+        }
+    }
+    verdict
+}
+
+#[test]
+fn random_certificates() {
+    let mut random = Random(16);
+    let mut seen = [0; 12];
+    for _ in 0..120_000 {
+        let runs = random.runs(5, 6);
+        let threshold = random.threshold(&runs);
+        let mut parts = rewritten(&mut random, &runs, threshold);
+        let bytes = encode(&parts);
+        let verdict = compare_verdict(&runs, threshold, &bytes);
+        assert!(matches!(verdict, Verdict::Valid { .. }));
+        assert!(fewest_parts(&slices(&runs), threshold) <= parts.len());
+
+        for _ in 0..=random.below(3) {
+            if !parts.is_empty() {
+                damage_part(&mut random, &mut parts);
+            }
+        }
+        let mut damaged = encode(&parts);
+        if random.one_in(3) {
+            damage_bytes(&mut random, &mut damaged);
+        }
+        match compare_verdict(&runs, threshold, &damaged) {
+            Verdict::Valid { .. } => seen[0] += 1,
+            Verdict::Invalid { number, .. } => seen[number as usize] += 1,
+        }
+    }
+    for number in [0, 8, 9, 10, 11] {
+        assert!(seen[number] > 500, "{seen:?}");
+    }
+}
+
+/// Any bytes at all, and any rows at all.
+#[test]
+fn random_noise() {
+    let mut random = Random(17);
+    for _ in 0..50_000 {
+        let small = |random: &mut Random| match random.below(12) {
+            0 => random.next() as u32,
+            n => n as u32 / 2,
+        };
+        let numbers: Vec<u32> = (0..random.below(6)).map(|_| small(&mut random)).collect();
+        let mut ends: Vec<u32> = (0..random.below(4)).map(|_| small(&mut random)).collect();
+        if random.one_in(2) {
+            ends.sort_unstable();
+            ends.push(numbers.len() as u32);
+        }
+        let threshold = small(&mut random);
+        let bytes: Vec<u8> = (0..random.below(40)).map(|_| random.next() as u8).collect();
+        let verdict = check(&numbers, &ends, threshold, &bytes);
+        let mut answers = [7; 3];
+        let mut certificate = [7; 60];
+        let outcome = query(
+            &numbers,
+            &ends,
+            threshold,
+            small(&mut random),
+            &mut answers,
+            &mut certificate,
+        );
+        // Both refuse at the first checks or neither does.
+        let expected = first_refusal(&numbers, &ends, threshold);
+        match outcome {
+            Outcome::Refused {
+                number: number @ 1..=4,
+                place,
+                ..
+            } => {
+                assert_eq!(Some((number, place)), expected);
+                assert_eq!(verdict, Verdict::Invalid { number, place });
+                assert_eq!((answers, certificate), ([7; 3], [7; 60]));
+            }
+            _ => {
+                assert_eq!(expected, None);
+                assert!(!matches!(verdict, Verdict::Invalid { number: 1..=4, .. }));
+            }
+        }
+    }
+}
+
+/// The first checks once more, over all numbers with the run of each.
+fn first_refusal(numbers: &[u32], ends: &[u32], threshold: u32) -> Option<(u8, u64)> {
+    let k = ends.len() as u64;
+    if !(1..=64).contains(&k) {
+        return Some((1, k));
+    }
+    if !(1..=k).contains(&u64::from(threshold)) {
+        return Some((2, u64::from(threshold)));
+    }
+    if let Some(i) = (1..ends.len()).find(|&i| ends[i - 1] > ends[i]) {
+        return Some((3, i as u64));
+    }
+    if *ends.last()? as usize != numbers.len() {
+        return Some((3, k));
+    }
+    let run_of = |place: usize| ends.iter().filter(|&&end| end as usize <= place).count();
+    (1..numbers.len())
+        .find(|&i| run_of(i - 1) == run_of(i) && numbers[i - 1] >= numbers[i])
+        .map(|i| (4, i as u64))
+}
