@@ -13,17 +13,17 @@ use Rattle.bits.proofs.Bits.{bit-above, with-new}
 use Rattle.model.proofs.Masks.{Labelled, labelled-nil, labelled-cons, label-first, label-rest, mask-only}
 use Rattle.model.specs.Runs.{Run, total, one, mask}
 
-label-at : {a : ℕ} (rs : List Run) (j : ℕ) (d : Run) → Labelled a rs → j < length rs → getD rs j d .label ≡ a + j
+pub label-at : {a : ℕ} (rs : List Run) (j : ℕ) (d : Run) → Labelled a rs → j < length rs → getD rs j d .label ≡ a + j
 label-at [] j d l h = absurd (omega arith)
 label-at (r ∷ rs) zero d l h = let e = label-first l in omega arith
 label-at (r ∷ rs) (suc j) d l h = let i = label-at rs j d (label-rest l) (omega arith) in omega arith
 
-labelled-take : {a : ℕ} (j : ℕ) (rs : List Run) → Labelled a rs → Labelled a (take j rs)
+pub labelled-take : {a : ℕ} (j : ℕ) (rs : List Run) → Labelled a rs → Labelled a (take j rs)
 labelled-take zero rs l = labelled-nil
 labelled-take (suc j) [] l = labelled-nil
 labelled-take (suc j) (r ∷ rs) l = labelled-cons (label-first l) (labelled-take j rs (label-rest l))
 
-total-append : (g : Run → ℕ) (rs ss : List Run) → total g (rs ++ ss) ≡ total g rs + total g ss
+pub total-append : (g : Run → ℕ) (rs ss : List Run) → total g (rs ++ ss) ≡ total g rs + total g ss
 unfolding total
 total-append g [] ss = omega arith
 total-append g (r ∷ rs) ss = let i = total-append g rs ss in omega arith
