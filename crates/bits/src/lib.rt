@@ -1,0 +1,41 @@
+// Masks: a 64-bit number in which bit i speaks of run i, bit 0 being the lowest.
+ghost use mathlib.Core.Path.{_≡_};
+ghost use Prim.Native.Nat.{_/_, _^_, _≤_, _<_};
+ghost use lib.Count.{ones};
+ghost use lib.Dec.{eqb};
+ghost use Rattle.model.specs.Runs.{bit};
+ghost use Rattle.bits.specs.Bits.{withRun};
+
+// The mask that names `run` too.
+pub fn with_run(mask: u64, run: u32) -> u64
+    requires { ⌜ run < 64 ⌝ }
+    ensures { λ r. ⌜ r ≡ withRun mask run ⌝ }
+{
+    mask | (1u64 << run)
+}
+
+// Whether the mask names `run`.
+pub fn names_run(mask: u64, run: u32) -> bool
+    requires { ⌜ run < 64 ⌝ }
+    ensures { λ r. ⌜ r ≡ eqb (bit mask run) 1 ⌝ }
+{
+    (mask >> run) % 2 == 1
+}
+
+// Whether the mask names no run from `k` on.
+pub fn names_only_below(mask: u64, k: u32) -> bool
+    requires { ⌜ k ≤ 64 ⌝ }
+    ensures { λ r. ⌜ r ≡ eqb (mask / 2 ^ k) 0 ⌝ }
+{
+    if k == 64 {
+        return true;
+    }
+    mask >> k == 0
+}
+
+// How many runs the mask names.
+pub fn ones_of(mask: u64) -> u32
+    ensures { λ r. ⌜ r ≡ ones mask ⌝ }
+{
+    u64::count_ones(mask)
+}

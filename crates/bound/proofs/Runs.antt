@@ -1,0 +1,63 @@
+-- Where the first checks pass, each end is at most the number of the numbers, so a run is as long as its ends say: the sum from the ends is the sum of
+-- the bounds over the runs, and the call returns it. Assumes nothing.
+use Prim.Native.Nat.{ℕ, suc, _-_, _≤_, _<_}
+use borrow.Author.Tests.{lt-ltb, le-ltb}
+use lib.ListN.{length, take, drop, length-take, length-drop}
+use mathlib.Core.List.{List, [], _∷_}
+use mathlib.Core.Logic.{⊎-elim}
+use mathlib.Core.Option.{none, some}
+use mathlib.Core.Path.{_≡_, refl, ap}
+use native.Mathlib.Omega.{arith}
+use Rattle.bound.specs.declared.Bound.the-variants.{Sum}
+use Rattle.bound.specs.Bound.{boundOf, sumFrom, endChecks, probeBound}
+use Rattle.bound.proofs.Checks.{number-passed}
+use Rattle.model.proofs.FirstChecks.{first-passed}
+use Rattle.model.proofs.Tests.{lt-or-le}
+use Rattle.model.specs.Compared.{boundIn, bound}
+use Rattle.model.specs.Refusals.{passed, _then_, refuseIf, refuseAt, fallsFrom, lastEnd, firstChecks}
+use Rattle.model.specs.Runs.{total, runsFrom, runs}
+
+-- ends that do not fall: the first is not below the one before, and the others do not fall
+not-fallen : (b i e : ℕ) (ends : List ℕ) → fallsFrom b i (e ∷ ends) ≡ none → (b ≤ e) × (fallsFrom e (suc i) ends ≡ none)
+unfolding fallsFrom
+not-fallen b i e ends h =
+    ⊎-elim
+    (λ (q : e < b).
+    let z : some i ≡ none = rw (lt-ltb e b q, fallsFrom) at h in
+    absurd (let w : _≡_ {A = ℕ} 0 1 = cc in omega arith))
+    (λ (q : b ≤ e). (q, rw (le-ltb e b q, fallsFrom) at h))
+    (lt-or-le e b)
+
+last-above : (b i : ℕ) (ends : List ℕ) → fallsFrom b i ends ≡ none → b ≤ lastEnd b ends
+unfolding lastEnd
+last-above b i [] h = omega arith
+last-above b i (e ∷ ends) h =
+    let n = not-fallen b i e ends h in
+    let l = last-above e (suc i) ends (n .1) in
+    omega (arith, n .0)
+
+sum-from : (d i j a : ℕ) (numbers ends : List ℕ) → fallsFrom a i ends ≡ none → lastEnd a ends ≤ length numbers
+    → sumFrom d a ends ≡ bound d (runsFrom j a numbers ends)
+unfolding sumFrom boundOf bound total runsFrom boundIn lastEnd
+sum-from d i j a numbers [] h l = refl
+sum-from d i j a numbers (e ∷ ends) h l =
+    let n = not-fallen a i e ends h in
+    let s = sum-from d (suc i) (suc j) e numbers ends (n .1) l in
+    let m = last-above e (suc i) ends (n .1) in
+    let k : length (take (e - a) (drop a numbers)) ≡ e - a = simp (length-take, length-drop) (omega (arith, n .0)) in
+    rw (k, s)
+
+pub sum-bound : (d t : ℕ) (numbers ends : List ℕ) → firstChecks numbers ends t ≡ passed → sumFrom d 0 ends ≡ bound d (runs numbers ends)
+unfolding runs
+sum-bound d t numbers ends h =
+    let p = first-passed numbers ends t h in
+    sum-from d 0 0 0 numbers ends (p .ends-rise) (omega arith)
+
+pub bound-passed : (d t : ℕ) (numbers ends : List ℕ) → firstChecks numbers ends t ≡ passed
+    → probeBound ends d ≡ Sum (bound d (runs numbers ends))
+unfolding probeBound endChecks _then_ refuseIf refuseAt
+bound-passed d t numbers ends h =
+    let p = first-passed numbers ends t h in
+    let l : lastEnd 0 ends ≤ 1048576 = omega arith in
+    rw (number-passed ends (p .some-runs) (p .few-runs), p .ends-rise, le-ltb 1048576 (lastEnd 0 ends) l, probeBound)
+    (ap Sum (sum-bound d t numbers ends h))
