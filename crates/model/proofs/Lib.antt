@@ -15,6 +15,7 @@ pub mod Instances
 pub mod Masks
 pub mod Rounds
 pub mod Searching
+pub mod Slices
 pub mod Tests
 pub mod Truth
 pub mod Walking

@@ -1,0 +1,112 @@
+-- `unrisen_number` gives the first number that is not above the one before in its run. The invariant: the definition from the first run on equals it
+-- from this run on, whose ends are still in order. The measure is the runs left. Assumes nothing.
+use Prim.Native.Nat.{ℕ, _-_, _≤_, _<_}
+use lib.ListN.{length, take, drop}
+use mathlib.Core.List.{List}
+use mathlib.Core.Option.{Option}
+use mathlib.Core.Path.{_≡_, refl, sym, ap, _∙_}
+use native.Mathlib.Omega.{arith}
+use Rattle.model.specs.Refusals.{unrisenIn}
+use Rattle.model.specs.Runs.{runsFrom, runs, unrisen}
+use Rattle.first_checks.specs.Checked.{placeOf}
+use Rattle.first_checks.proofs.Laws.{Ordered, next-end, next-ordered, runs-at, runs-on, runs-end}
+use borrow.Author.Needs.{needs}
+use Rattle.first_checks.proofs.unrisen_number.Statement.{statement}
+use Rattle.first_checks.proofs.unrisen_number.Tie as tie
+
+record Here (numbers ends : List ℕ) (start i : ℕ) : Type 0 where
+  bound : i ≤ length ends
+  ordered : Ordered numbers ends start i
+  same : unrisenIn 0 (runs numbers ends) ≡ unrisenIn start (runsFrom i start numbers (drop i ends))
+
+-- what holds of the run up to an end holds of the run up to the number that this end equals
+part-is : (numbers : List ℕ) (a : ℕ) {x y : ℕ} {o : Option ℕ} → x ≡ y → unrisen a (take (x - a) (drop a numbers)) ≡ o
+    → unrisen a (take (y - a) (drop a numbers)) ≡ o
+part-is numbers a e h = ap (λ z. unrisen a (take (z - a) (drop a numbers))) (sym e) ∙ h
+
+abbrev Inv-loop : tie.InvT-loop
+Inv-loop numbers ends start₀ i₀ start i = Here numbers ends start i
+
+abbrev μ-loop : tie.MeasureT-loop
+μ-loop numbers ends start₀ i₀ start i = length ends - i
+
+loop-holds : tie.Need-loop-holds Inv-loop μ-loop
+unfolding runs
+loop-holds c = record { bound = omega arith; ordered = record { rise = c .before .before .pre .0; last = c .before .before .pre .1 }; same = refl }
+
+mul-wide : tie.Need-mul-wide Inv-loop μ-loop
+mul-wide c = search needs
+
+shared-slice-read-wide : tie.Need-shared-slice-read-wide Inv-loop μ-loop
+shared-slice-read-wide c = search needs
+
+wide-requires : tie.Need-wide-requires Inv-loop μ-loop
+wide-requires c κs = search needs
+
+unrisen-in-run-requires : tie.Need-unrisen-in-run-requires Inv-loop μ-loop
+unrisen-in-run-requires c κs =
+    let l = c .before .before .before in
+    let a = l .before .before .before .args in
+    let n = next-end (a .numbers .now) (a .ends .now) (l .loop .start) (l .loop .i) (c .before .before .loop-test .taken) (l .loop .inv .ordered) in
+    let e = c .wide .ensures in
+    (omega (arith, n .0), omega (arith, n .1))
+
+enum-known-place : tie.Need-enum-known-place Inv-loop μ-loop
+enum-known-place c = search needs
+
+returns : tie.Need-returns Inv-loop μ-loop
+returns c =
+    let u = c .before .before .before in
+    let l = u .before .before .before .before in
+    let a = l .before .before .before .args in
+    let p = c .before .place .given .0 .0 in
+    sym (l .loop .inv .same ∙ runs-at (a .numbers .now) (a .ends .now) (l .loop .start) (l .loop .i) p (u .before .before .before .loop-test .taken)
+    (part-is (a .numbers .now) (l .loop .start) (u .before .wide .ensures) (sym (u .unrisen-in-run .ensures) ∙ ap placeOf (c .before .place .given .1))))
+
+enum-told : tie.Need-enum-told Inv-loop μ-loop
+enum-told c = search needs
+
+add-i : tie.Need-add-i Inv-loop μ-loop
+add-i c = search needs
+
+loop-less : tie.Need-loop-less Inv-loop μ-loop
+loop-less c = search needs
+
+loop-again : tie.Need-loop-again Inv-loop μ-loop
+loop-again c =
+    let u = c .before .before in
+    let l = u .before .before .before .before in
+    let a = l .before .before .before .args in
+    let h = u .before .before .before .loop-test .taken in
+    let w = u .before .wide .ensures in
+    record {
+      bound = omega arith;
+      ordered = rw w (next-ordered (a .numbers .now) (a .ends .now) (l .loop .start) (l .loop .i) h (l .loop .inv .ordered));
+      same = l .loop .inv .same ∙ (runs-on (a .numbers .now) (a .ends .now) (l .loop .start) (l .loop .i) h (l .loop .inv .ordered)
+          (part-is (a .numbers .now) (l .loop .start) w (sym (u .unrisen-in-run .ensures) ∙ ap placeOf (c .enum-told .given .1))) ∙ rw w);
+    }
+
+returns-2 : tie.Need-returns-2 Inv-loop μ-loop
+returns-2 c =
+    let l = c .before in
+    let a = l .before .before .before .args in
+    sym (l .loop .inv .same ∙ runs-end (a .numbers .now) (a .ends .now) (l .loop .start) (l .loop .i) (c .loop-test .left))
+
+pub unrisen-number-spec : {M : Type 1} → statement M
+unrisen-number-spec =
+    tie.close
+    (tie.spec
+    Inv-loop
+    μ-loop
+    loop-holds
+    mul-wide
+    shared-slice-read-wide
+    wide-requires
+    unrisen-in-run-requires
+    enum-known-place
+    returns
+    enum-told
+    add-i
+    loop-less
+    loop-again
+    returns-2)

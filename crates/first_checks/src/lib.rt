@@ -1,0 +1,149 @@
+// The first checks of document 01's table, for question and checker alike. One pass over the ends, one over the numbers.
+ghost use mathlib.Core.Path.{_≡_};
+ghost use mathlib.Core.Option.{none};
+ghost use Prim.Native.Nat.{_+_, _-_, _≤_, _<_};
+ghost use lib.ListN.{length, take, drop};
+ghost use Rattle.model.specs.Refusals.{fallsFrom, lastEnd, unrisenIn, firstChecks};
+ghost use Rattle.model.specs.Runs.{runs, unrisen};
+ghost use Rattle.first_checks.specs.Checked.{placeOf, checkOf};
+
+// The place of the first number that fails a check.
+pub enum Found {
+    At(usize),
+    Nothing,
+}
+
+// What the first checks say: passed, or the number and the place of the first refusal.
+pub enum Checked {
+    Passed,
+    Refused { number: u8, place: usize },
+}
+
+// The first end below the one before.
+fn falling_end(ends: &[u32]) -> Found
+    ensures { λ r. ⌜ placeOf r ≡ fallsFrom 0 0 (now (ends .entry)) ⌝ }
+{
+    let mut prior: u32 = 0;
+    let mut i: usize = 0;
+    while i < ends.len() {
+        let e = ends[i];
+        if e < prior {
+            return Found::At(i);
+        }
+        prior = e;
+        i += 1;
+    }
+    Found::Nothing
+}
+
+// The first number from start to end that is not above the one before.
+fn unrisen_in_run(numbers: &[u32], start: usize, end: usize) -> Found
+    requires { ⌜ (start ≤ end) × (end ≤ length (now numbers)) ⌝ }
+    ensures { λ r. ⌜ placeOf r ≡ unrisen start (take (end - start) (drop start (now (numbers .entry)))) ⌝ }
+{
+    if start == end {
+        return Found::Nothing;
+    }
+    let mut prior = numbers[start];
+    let mut i = start + 1;
+    while i < end {
+        let x = numbers[i];
+        if x <= prior {
+            return Found::At(i);
+        }
+        prior = x;
+        i += 1;
+    }
+    Found::Nothing
+}
+
+fn wide(x: u32) -> usize
+    ensures { λ r. ⌜ r ≡ x ⌝ }
+{
+    x as usize
+}
+
+// The first number that is not above the one before in its run, where the ends are in order and the last is the length.
+fn unrisen_number(numbers: &[u32], ends: &[u32]) -> Found
+    requires { ⌜ (fallsFrom 0 0 (now ends) ≡ none) × (lastEnd 0 (now ends) ≡ length (now numbers)) ⌝ }
+    ensures { λ r. ⌜ placeOf r ≡ unrisenIn 0 (runs (now (numbers .entry)) (now (ends .entry))) ⌝ }
+{
+    let mut start: usize = 0;
+    let mut i: usize = 0;
+    while i < ends.len() {
+        let end = wide(ends[i]);
+        if let Found::At(place) = unrisen_in_run(numbers, start, end) {
+            return Found::At(place);
+        }
+        start = end;
+        i += 1;
+    }
+    Found::Nothing
+}
+
+// The last end, 0 where there is none.
+fn last_end(ends: &[u32]) -> usize
+    ensures { λ r. ⌜ r ≡ lastEnd 0 (now (ends .entry)) ⌝ }
+{
+    let k = ends.len();
+    if k == 0 {
+        return 0;
+    }
+    wide(ends[k - 1])
+}
+
+pub fn first_checks(numbers: &[u32], ends: &[u32], threshold: u32) -> Checked
+    ensures { λ r. ⌜ checkOf r ≡ firstChecks (now (numbers .entry)) (now (ends .entry)) threshold ⌝ }
+{
+    let k = ends.len();
+    if k == 0 {
+        return Checked::Refused {
+            number: 1,
+            place: k,
+        };
+    }
+    if 64 < k {
+        return Checked::Refused {
+            number: 1,
+            place: k,
+        };
+    }
+    let t = wide(threshold);
+    if t == 0 {
+        return Checked::Refused {
+            number: 2,
+            place: t,
+        };
+    }
+    if k < t {
+        return Checked::Refused {
+            number: 2,
+            place: t,
+        };
+    }
+    if let Found::At(place) = falling_end(ends) {
+        return Checked::Refused {
+            number: 3,
+            place: place,
+        };
+    }
+    if last_end(ends) != numbers.len() {
+        return Checked::Refused {
+            number: 3,
+            place: k,
+        };
+    }
+    if 1048576 < numbers.len() {
+        return Checked::Refused {
+            number: 3,
+            place: k,
+        };
+    }
+    if let Found::At(place) = unrisen_number(numbers, ends) {
+        return Checked::Refused {
+            number: 4,
+            place: place,
+        };
+    }
+    Checked::Passed
+}
