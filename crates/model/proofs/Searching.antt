@@ -184,3 +184,75 @@ sought-right v x s r h =
     within-digits (suc p) g =
         let i : 0 + suc p - 1 ≡ p = omega arith in
         below-digits p (length (x ∷ s)) (omega (arith, rw i at (g (omega arith))))
+
+-- ---- any fuel that is enough gives the same
+
+pub double-fuel : (n m v : ℕ) (s : List ℕ) (lo place : ℕ) → 0 < place → length s ≤ place + n → length s ≤ place + m
+    → doubling n v s lo place ≡ doubling m v s lo place
+double-fuel zero m v s lo place p h k =
+    let q : length s ≤ place = omega arith in double-end zero v s lo place q ∙ sym (double-end m v s lo place q)
+double-fuel (suc n) zero v s lo place p h k =
+    let q : length s ≤ place = omega arith in double-end (suc n) v s lo place q ∙ sym (double-end zero v s lo place q)
+double-fuel (suc n) (suc m) v s lo place p h k =
+    ⊎-elim
+    (λ (q : place < length s).
+    ⊎-elim
+    (λ (o : getD s place 0 < v).
+    double-on n v s lo place q o
+    ∙ (ap (λ (b : Bracket). record { probes = suc (b .probes); lo = b .lo; hi = b .hi })
+    (double-fuel n m v s place (2 * place) (omega arith) (omega arith) (omega arith))
+    ∙ sym (double-on m v s lo place q o)))
+    (λ (o : v ≤ getD s place 0). double-stop n v s lo place q o ∙ sym (double-stop m v s lo place q o))
+    (lt-or-le (getD s place 0) v))
+    (λ (q : length s ≤ place). double-end (suc n) v s lo place q ∙ sym (double-end (suc m) v s lo place q))
+    (lt-or-le place (length s))
+
+pub halve-fuel : (n m v : ℕ) (s : List ℕ) (lo hi : ℕ) → hi ≤ lo + suc n → hi ≤ lo + suc m → halving n v s lo hi ≡ halving m v s lo hi
+halve-fuel zero m v s lo hi h k =
+    let q : hi - lo ≤ 1 = omega arith in halve-end zero v s lo hi q ∙ sym (halve-end m v s lo hi q)
+halve-fuel (suc n) zero v s lo hi h k =
+    let q : hi - lo ≤ 1 = omega arith in halve-end (suc n) v s lo hi q ∙ sym (halve-end zero v s lo hi q)
+halve-fuel (suc n) (suc m) v s lo hi h k =
+    ⊎-elim
+    (λ (q : 1 < hi - lo).
+    ⊎-elim
+    (λ (o : getD s (lo + (hi - lo) / 2) 0 < v).
+    halve-up n v s lo hi q o
+    ∙ (ap (λ (b : Halving). record { probes = suc (b .probes); place = b .place })
+    (halve-fuel n m v s (lo + (hi - lo) / 2) hi (omega arith) (omega arith))
+    ∙ sym (halve-up m v s lo hi q o)))
+    (λ (o : v ≤ getD s (lo + (hi - lo) / 2) 0).
+    halve-down n v s lo hi q o
+    ∙ (ap (λ (b : Halving). record { probes = suc (b .probes); place = b .place })
+    (halve-fuel n m v s lo (lo + (hi - lo) / 2) (omega arith) (omega arith))
+    ∙ sym (halve-down m v s lo hi q o)))
+    (lt-or-le (getD s (lo + (hi - lo) / 2) 0) v))
+    (λ (q : hi - lo ≤ 1). halve-end (suc n) v s lo hi q ∙ sym (halve-end (suc m) v s lo hi q))
+    (lt-or-le 1 (hi - lo))
+
+-- the bracket lies in the list
+pub double-inside : (n v : ℕ) (s : List ℕ) (lo place : ℕ) → doubling n v s lo place .hi ≤ length s
+unfolding doubling
+double-inside zero v s lo place = omega arith
+double-inside (suc n) v s lo place =
+    ⊎-elim
+    (λ (q : place < length s).
+    ⊎-elim
+    (λ (o : getD s place 0 < v). rw (double-on n v s lo place q o) (double-inside n v s place (2 * place)))
+    (λ (o : v ≤ getD s place 0). rw (double-stop n v s lo place q o) (omega arith))
+    (lt-or-le (getD s place 0) v))
+    (λ (q : length s ≤ place). rw (double-end (suc n) v s lo place q) (omega arith))
+    (lt-or-le place (length s))
+
+pub double-order : (n v : ℕ) (s : List ℕ) (lo place : ℕ) → lo ≤ place → lo ≤ length s → doubling n v s lo place .lo ≤ doubling n v s lo place .hi
+unfolding doubling
+double-order zero v s lo place h k = k
+double-order (suc n) v s lo place h k =
+    ⊎-elim
+    (λ (q : place < length s).
+    ⊎-elim
+    (λ (o : getD s place 0 < v). rw (double-on n v s lo place q o) (double-order n v s place (2 * place) (omega arith) (omega arith)))
+    (λ (o : v ≤ getD s place 0). rw (double-stop n v s lo place q o) h)
+    (lt-or-le (getD s place 0) v))
+    (λ (q : length s ≤ place). rw (double-end (suc n) v s lo place q) k)
+    (lt-or-le place (length s))
