@@ -1,0 +1,31 @@
+-- A number of m + n bytes as its low m bytes and its high n bytes, written and read. Assumes nothing.
+use Prim.Native.Nat.{ℕ, zero, suc, _+_, _*_, _/_, _%_, _^_, _<_}
+use lib.Arith.{mod-mul}
+use lib.ListN.{length}
+use mathlib.Core.List.{List, [], _∷_, _++_}
+use mathlib.Core.Path.{_≡_, sym, ap}
+use native.Mathlib.Nat.{zero-add, pow-suc, pow-succ', div-one, div-div-eq-div-mul}
+use native.Mathlib.Omega.{arith}
+use Rattle.model.specs.Certificate.{bytesOf, numberOf}
+
+pow-pos : (m : ℕ) → 0 < 256 ^ m
+pow-pos zero = omega arith
+pow-pos (suc m) = let i = pow-pos m in omega arith
+
+-- the low bytes of a number, and then its high bytes
+pub bytes-split : (m n x : ℕ) → bytesOf m (x % 256 ^ m) ++ bytesOf n (x / 256 ^ m) ≡ bytesOf (m + n) x
+unfolding bytesOf
+bytes-split zero n x = rw (div-one x, zero-add n)
+bytes-split (suc m) n x =
+    let e : x % 256 ^ suc m ≡ x / 256 % 256 ^ m * 256 + x % 256 = rw (pow-suc 256 m) (mod-mul x (pow-pos m) (omega arith)) in
+    let low : x % 256 ^ suc m % 256 ≡ x % 256 = omega arith in
+    let high : x % 256 ^ suc m / 256 ≡ x / 256 % 256 ^ m = omega arith in
+    let rest : x / 256 ^ suc m ≡ x / 256 / 256 ^ m = rw (pow-succ' 256 m) (sym (div-div-eq-div-mul x 256 (256 ^ m))) in
+    let e₁ : suc m + n ≡ suc (m + n) = omega arith in
+    rw (low, high, rest, e₁) (ap (λ (s : List ℕ). x % 256 ∷ s) (bytes-split m n (x / 256)))
+
+-- the number of two rows of bytes
+pub number-append : (s t : List ℕ) → numberOf (s ++ t) ≡ numberOf s + 256 ^ length s * numberOf t
+unfolding numberOf
+number-append [] t = omega arith
+number-append (b ∷ s) t = rw (number-append s t, pow-succ' 256 (length s)) (omega arith)

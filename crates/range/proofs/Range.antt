@@ -1,0 +1,174 @@
+-- The part of a rising list between two numbers stands from the rank of the first on and before the rank of the number after the last. Also the
+-- turns of the pass that tests whether a list rises. Assumes nothing.
+use Prim.Native.Nat.{ℕ, suc, _+_, _-_, _≤_, _<_}
+use borrow.Author.Tests.{lt-ltb, le-ltb, le-leb, lt-leb}
+use lib.ListN.{length, getD, take, drop, drop-of-length-le}
+use lib.Seq.{drop-cons}
+use mathlib.Core.Bool.{true, false}
+use mathlib.Core.List.{List, [], _∷_, List·Memᴰ·not-nil, List·Memᴰ·cases-cons}
+use mathlib.Core.Logic.{⊎-elim}
+use mathlib.Core.Option.{Option, none, some}
+use mathlib.Core.Path.{_≡_, refl, sym, ap, _∙_}
+use native.Mathlib.Numerals.{add-one}
+use native.Mathlib.Omega.{arith}
+use Rattle.model.proofs.FirstChecks.{risen}
+use Rattle.model.proofs.From.{Rise, rise-nil, rise-cons, rank, rank-nil, rank-pass, rank-stop, rank-le, below-rank, from-rank}
+use Rattle.model.proofs.Tests.{lt-or-le, true-false}
+use Rattle.model.specs.Demands.{Fits}
+use Rattle.model.specs.Range.{within, between}
+use Rattle.model.specs.Runs.{pastBin, unrisen, unrisenAfter}
+use Rattle.range.specs.Range.{rising, Spans}
+
+-- ---- whether a list rises
+
+-- the first number from place i on that is not above the one before
+unfoldable pub onward : ℕ → List ℕ → Option ℕ
+onward i s = unrisenAfter (i - 1) (getD s (i - 1) 0) (drop i s)
+
+pub onward-start : (s : List ℕ) → unrisen 0 s ≡ onward 1 s
+unfolding onward unrisen unrisenAfter
+onward-start [] = refl
+onward-start (x ∷ s) = refl
+
+module _ (s : List ℕ) (i : ℕ) (h : 1 ≤ i) where
+  pub onward-stop : i < length s → getD s i 0 ≤ getD s (i - 1) 0 → onward i s ≡ some i
+  unfolding onward unrisenAfter
+  onward-stop l q =
+      let e : suc (i - 1) ≡ i = omega arith in rw (drop-cons s i 0 l, le-ltb (getD s (i - 1) 0) (getD s i 0) q, unrisenAfter, e)
+
+  pub onward-on : i < length s → getD s (i - 1) 0 < getD s i 0 → onward i s ≡ onward (i + 1) s
+  unfolding onward unrisenAfter
+  onward-on l q =
+      let e : i + 1 - 1 ≡ i = omega arith in
+      let f : suc (i - 1) ≡ i = omega arith in
+      rw (e, add-one i, drop-cons s i 0 l, lt-ltb (getD s (i - 1) 0) (getD s i 0) q, unrisenAfter, f)
+
+pub onward-end : (s : List ℕ) (i : ℕ) → length s ≤ i → onward i s ≡ none
+unfolding onward unrisenAfter
+onward-end s i h = rw (drop-of-length-le s h)
+
+pub rising-none : (s : List ℕ) → unrisen 0 s ≡ none → rising s ≡ true
+unfolding rising
+rising-none s e = rw (e, rising)
+
+pub rising-some : (s : List ℕ) (i : ℕ) → unrisen 0 s ≡ some i → rising s ≡ false
+unfolding rising
+rising-some s i e = rw (e, rising)
+
+-- a bound on the number at each place
+pub fits : (w : ℕ) (s : List ℕ) → ((i : ℕ) → getD s i 0 < w) → Fits w s
+fits w [] h = record { each = λ x m. absurd (List·Memᴰ·not-nil m) }
+fits w (y ∷ s) h =
+    record {
+      each = λ x m.
+          ⊎-elim (λ (e : x ≡ y). rw e (h 0)) (λ n. fits w s (λ i. h (suc i)) .each x n) (List·Memᴰ·cases-cons m);
+    }
+
+pub rising-rise : (s : List ℕ) → Fits pastBin s → rising s ≡ true → Rise 0 s
+unfolding rising
+rising-rise s h e = go (unrisen 0 s) refl
+  where
+    go : (o : Option ℕ) → unrisen 0 s ≡ o → Rise 0 s
+    go none k = risen 0 s k h
+    go (some i) k = true-false e (rising-some s i k)
+
+-- ---- a search by halving
+
+-- a place whose number is below v is before the rank, and the other way round
+pub place-low : (v : ℕ) {a : ℕ} (s : List ℕ) → Rise a s → (i : ℕ) → i < length s → getD s i 0 < v → i < rank v s
+place-low v s r i l h = ⊎-elim (λ q. q) (λ (q : rank v s ≤ i). let g = from-rank v s r i q l in absurd (omega arith)) (lt-or-le i (rank v s))
+
+pub place-high : (v : ℕ) (s : List ℕ) (i : ℕ) → v ≤ getD s i 0 → rank v s ≤ i
+place-high v s i h = ⊎-elim (λ (q : i < rank v s). let g = below-rank v s i q in absurd (omega arith)) (λ q. q) (lt-or-le i (rank v s))
+
+-- ---- the part between two numbers
+
+module _ (first last : ℕ) (h : first ≤ last) where
+  within-below : (x : ℕ) (s : List ℕ) → x < first → within first last (x ∷ s) ≡ within first last s
+  unfolding within
+  within-below x s l = rw (lt-leb first x l, within)
+
+  within-in : (x : ℕ) (s : List ℕ) → first ≤ x → x ≤ last → within first last (x ∷ s) ≡ x ∷ within first last s
+  unfolding within
+  within-in x s l u = rw (le-leb first x l, le-leb x last u, within)
+
+  within-above : (x : ℕ) (s : List ℕ) → last < x → within first last (x ∷ s) ≡ within first last s
+  unfolding within
+  within-above x s l = let m : first ≤ x = omega arith in rw (le-leb first x m, lt-leb x last l, within)
+
+  within-nil : within first last [] ≡ []
+  unfolding within
+  within-nil = refl
+
+  -- above the last there is nothing
+  within-none : {a : ℕ} {s : List ℕ} → Rise a s → last < a → within first last s ≡ []
+  within-none rise-nil l = within-nil
+  within-none (rise-cons {x = x} {s = s} m u r) l =
+      let n : last < x = omega arith in rw (within-above x s n) (within-none r (omega arith))
+
+  -- from the first on it is a front of the list
+  within-front : {a : ℕ} {s : List ℕ} → Rise a s → first ≤ a → within first last s ≡ take (rank (last + 1) s) s
+  within-front rise-nil l = rw (within-nil, rank-nil (last + 1))
+  within-front (rise-cons {x = x} {s = s} m u r) l =
+      ⊎-elim
+      (λ (q : x < last + 1).
+      let n : first ≤ x = omega arith in
+      let o : x ≤ last = omega arith in
+      rw (within-in x s n o, rank-pass (last + 1) x s q) (ap (λ (t : List ℕ). x ∷ t) (within-front r (omega arith))))
+      (λ (q : last + 1 ≤ x).
+      let n : last < x = omega arith in rw (within-above x s n, rank-stop (last + 1) x s q) (within-none r (omega arith)))
+      (lt-or-le x (last + 1))
+
+  pub within-part : {a : ℕ} {s : List ℕ} → Rise a s
+      → take (rank (last + 1) s - rank first s) (drop (rank first s) s) ≡ within first last s
+  within-part rise-nil = rw (within-nil, rank-nil (last + 1), rank-nil first)
+  within-part (rise-cons {x = x} {s = s} m u r) =
+      ⊎-elim
+      (λ (q : x < first).
+      let o : x < last + 1 = omega arith in
+      let e : suc (rank (last + 1) s) - suc (rank first s) ≡ rank (last + 1) s - rank first s = omega arith in
+      rw (within-below x s q, rank-pass first x s q, rank-pass (last + 1) x s o, e) (within-part r))
+      (λ (q : first ≤ x).
+      let e : rank (last + 1) (x ∷ s) - 0 ≡ rank (last + 1) (x ∷ s) = omega arith in
+      rw (rank-stop first x s q, e) (sym (within-front (rise-cons q u r) (omega arith))))
+      (lt-or-le x first)
+
+-- a rank grows with its number
+pub rank-mono : (v w : ℕ) (s : List ℕ) → v ≤ w → rank v s ≤ rank w s
+rank-mono v w [] h = rw (rank-nil v) (omega arith)
+rank-mono v w (x ∷ s) h =
+    ⊎-elim
+    (λ (q : x < v). let o : x < w = omega arith in rw (rank-pass v x s q, rank-pass w x s o) (let i = rank-mono v w s h in omega arith))
+    (λ (q : v ≤ x). rw (rank-stop v x s q) (omega arith))
+    (lt-or-le x v)
+
+module _ (first last : ℕ) (s : List ℕ) where
+  pub between-none : last < first → between first last s ≡ []
+  unfolding between
+  between-none h = rw (lt-ltb last first h, between)
+
+  pub between-unrisen : first ≤ last → rising s ≡ false → between first last s ≡ []
+  unfolding between rising
+  between-unrisen h e = go (unrisen 0 s) refl
+    where
+      go : (o : Option ℕ) → unrisen 0 s ≡ o → between first last s ≡ []
+      go none k = true-false (rising-none s k) e
+      go (some i) k = rw (le-ltb last first h, k, between)
+
+  between-risen : first ≤ last → rising s ≡ true → between first last s ≡ within first last s
+  unfolding between rising
+  between-risen h e = go (unrisen 0 s) refl
+    where
+      go : (o : Option ℕ) → unrisen 0 s ≡ o → between first last s ≡ within first last s
+      go none k = rw (le-ltb last first h, k, between)
+      go (some i) k = true-false e (rising-some s i k)
+
+  pub spans-none : between first last s ≡ [] → Spans first last s (record { start = 0; end = 0 })
+  spans-none e = record { ordered = omega arith; inside = omega arith; part = sym e }
+
+  pub spans-ranks : first ≤ last → rising s ≡ true → Rise 0 s → Spans first last s (record { start = rank first s; end = rank (last + 1) s })
+  spans-ranks h e r = record {
+    ordered = rank-mono first (last + 1) s (omega arith);
+    inside = rank-le (last + 1) s;
+    part = within-part first last h r ∙ sym (between-risen h e);
+  }
