@@ -7,17 +7,13 @@ use mathlib.Core.List.{List, _∷_, _++_}
 use mathlib.Core.Logic.{⊎-elim}
 use mathlib.Core.Path.{_≡_, refl, sym, ap, _∙_}
 use native.Mathlib.Omega.{arith}
+use Rattle.model.proofs.Encoding.{part-size}
 use Rattle.model.proofs.Tests.{lt-or-le}
 use Rattle.model.specs.Certificate.{Part, answer, gap, bytesOf, field, encodePart, sizeOf}
 use Rattle.model.specs.Refusals.{over}
 use Rattle.fields.specs.Fields.{placed, stored, storedResult}
 use Rattle.fields.specs.declared.Written.the-variants.{Next, Full}
 use Rattle.fields.proofs.Placed.{placed-length, placed-then, over-length, placed-over}
-
-pub part-length : (p : Part) → length (encodePart p) ≡ sizeOf p
-unfolding encodePart sizeOf field bytesOf
-part-length (answer v m) = refl
-part-length (gap f l m) = refl
 
 module _ (l : List ℕ) (at : ℕ) (p : Part) where
   pub stored-fits : at + sizeOf p ≤ length l → stored l at p ≡ placed l at (encodePart p)
@@ -41,7 +37,7 @@ module _ (l : List ℕ) (at : ℕ) (p : Part) where
       ⊎-elim
       (λ (h : length l < at + sizeOf p). ap length (stored-full h))
       (λ (h : at + sizeOf p ≤ length l).
-      let n = part-length p in ap length (stored-fits h) ∙ placed-length (encodePart p) l at (omega arith))
+      let n = part-size p in ap length (stored-fits h) ∙ placed-length (encodePart p) l at (omega arith))
       (lt-or-le (length l) (at + sizeOf p))
 
 -- a part stored right after what was written at the front

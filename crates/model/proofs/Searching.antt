@@ -65,10 +65,10 @@ half-pow zero = omega arith
 half-pow (suc j) = let e : suc j - 1 ≡ j = omega arith in rw e (omega arith)
 
 -- a place whose number is below v is before the rank, and the other way round
-place-low : (v : ℕ) {a : ℕ} (s : List ℕ) → Rise a s → (i : ℕ) → i < length s → getD s i 0 < v → i < rank v s
+pub place-low : (v : ℕ) {a : ℕ} (s : List ℕ) → Rise a s → (i : ℕ) → i < length s → getD s i 0 < v → i < rank v s
 place-low v s r i l h = ⊎-elim (λ q. q) (λ (q : rank v s ≤ i). let g = from-rank v s r i q l in absurd (omega arith)) (lt-or-le i (rank v s))
 
-place-high : (v : ℕ) (s : List ℕ) (i : ℕ) → v ≤ getD s i 0 → rank v s ≤ i
+pub place-high : (v : ℕ) (s : List ℕ) (i : ℕ) → v ≤ getD s i 0 → rank v s ≤ i
 place-high v s i h = ⊎-elim (λ (q : i < rank v s). let g = below-rank v s i q in absurd (omega arith)) (λ q. q) (lt-or-le i (rank v s))
 
 ended : (v : ℕ) (s : List ℕ) (j lo place : ℕ) → place ≡ 2 ^ j → lo ≡ place / 2 → lo < rank v s → length s ≤ place

@@ -72,15 +72,6 @@ rising-rise s h e = go (unrisen 0 s) refl
     go none k = risen 0 s k h
     go (some i) k = true-false e (rising-some s i k)
 
--- ---- a search by halving
-
--- a place whose number is below v is before the rank, and the other way round
-pub place-low : (v : ℕ) {a : ℕ} (s : List ℕ) → Rise a s → (i : ℕ) → i < length s → getD s i 0 < v → i < rank v s
-place-low v s r i l h = ⊎-elim (λ q. q) (λ (q : rank v s ≤ i). let g = from-rank v s r i q l in absurd (omega arith)) (lt-or-le i (rank v s))
-
-pub place-high : (v : ℕ) (s : List ℕ) (i : ℕ) → v ≤ getD s i 0 → rank v s ≤ i
-place-high v s i h = ⊎-elim (λ (q : i < rank v s). let g = below-rank v s i q in absurd (omega arith)) (λ q. q) (lt-or-le i (rank v s))
-
 -- ---- the part between two numbers
 
 module _ (first last : ℕ) (h : first ≤ last) where

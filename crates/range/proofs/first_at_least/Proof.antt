@@ -5,7 +5,7 @@ use denote.Ref.{now}
 use lib.ListN.{length}
 use native.Mathlib.Omega.{arith}
 use Rattle.model.proofs.From.{rank, rank-le}
-use Rattle.range.proofs.Range.{place-low, place-high}
+use Rattle.model.proofs.Searching.{place-low, place-high}
 use Rattle.range.proofs.first_at_least.Statement.{statement}
 use Rattle.range.proofs.first_at_least.Tie as tie
 
