@@ -1,5 +1,5 @@
 #!/usr/bin/env bash
-# The whole test: layout, proofs with their must-fail edits and programs, then Rust. The last line is the prover's own tally, printed again only if
+# The whole test: layout, proofs with their must-fail edits and programs, then the static library from C and from Rust. The last line is the prover's own tally, printed again only if
 # everything else passed too.
 set -euo pipefail
 cd "$(dirname "$0")/.."
@@ -15,6 +15,8 @@ case "$tally" in
   *) exit 1 ;;
 esac
 
-(cd rust && cargo test --release --offline --quiet)
+rt staticlib capi
+sh examples/test.sh
+(cd rust && cargo fmt --check && cargo test --release --offline --quiet)
 
 printf '%s\n' "$tally"

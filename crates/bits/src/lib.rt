@@ -1,10 +1,10 @@
 // Masks: a 64-bit number in which bit i speaks of run i, bit 0 being the lowest.
 ghost use mathlib.Core.Path.{_≡_};
-ghost use Prim.Native.Nat.{_/_, _^_, _≤_, _<_};
+ghost use Prim.Native.Nat.{_+_, _/_, _^_, _≤_, _<_};
 ghost use lib.Count.{ones};
 ghost use lib.Dec.{eqb};
 ghost use Rattle.model.specs.Runs.{bit};
-ghost use Rattle.bits.specs.Bits.{withRun};
+ghost use Rattle.bits.specs.Bits.{withRun, Lowest};
 
 // The mask that names `run` too.
 pub fn with_run(mask: u64, run: u32) -> u64
@@ -38,4 +38,20 @@ pub fn ones_of(mask: u64) -> u32
     ensures { λ r. ⌜ r ≡ ones mask ⌝ }
 {
     u64::count_ones(mask)
+}
+
+// The lowest run that the mask names.
+pub fn lowest_run(mask: u64) -> u32
+    requires { ⌜ 0 < mask ⌝ }
+    ensures { λ r. ⌜ Lowest mask r ⌝ }
+{
+    u64::trailing_zeros(mask)
+}
+
+// The mask that names `run` no more.
+pub fn without_run(mask: u64, run: u32) -> u64
+    requires { ⌜ (run < 64) × (bit mask run ≡ 1) ⌝ }
+    ensures { λ r. ⌜ r + 2 ^ run ≡ mask ⌝ }
+{
+    mask - (1u64 << run)
 }

@@ -25,17 +25,17 @@ use Rattle.model.proofs.Truth.{Fit, labelled-at}
 use Rattle.model.proofs.Walking.{Rising, rising-tail, fromRun, at, map-mem, gapAt, answerAt, Walked, over, stop, pass, hit, hit-here}
 
 -- a search that is made, and one that is not
-search-made : (v : ℕ) (r : Run) → head r < v
+pub search-made : (v : ℕ) (r : Run) → head r < v
     → searchIn v r ≡ sought (r .label) ∷ (replicate (seek v (r .bins) .doublings) (doubled (r .label)) ++ replicate (seek v (r .bins) .halvings) (halved (r .label)))
 unfolding searchIn
 search-made v r h = rw (lt-ltb (head r) v h, searchIn)
 
-search-none : (v : ℕ) (r : Run) → v ≤ head r → searchIn v r ≡ []
+pub search-none : (v : ℕ) (r : Run) → v ≤ head r → searchIn v r ≡ []
 unfolding searchIn
 search-none v r h = rw (le-ltb (head r) v h, searchIn)
 
 -- what a search costs, given what a probe in its run costs
-search-cost : (c : Event → ℕ) (v k : ℕ) (r : Run) → c (sought (r .label)) ≡ 0 → c (doubled (r .label)) ≡ k → c (halved (r .label)) ≡ k → head r < v
+pub search-cost : (c : Event → ℕ) (v k : ℕ) (r : Run) → c (sought (r .label)) ≡ 0 → c (doubled (r .label)) ≡ k → c (halved (r .label)) ≡ k → head r < v
     → cost c (searchIn v r) ≡ (seek v (r .bins) .doublings + seek v (r .bins) .halvings) * k
 unfolding cost
 search-cost c v k r e₀ e₁ e₂ h =

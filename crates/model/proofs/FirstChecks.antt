@@ -3,7 +3,7 @@
 use Prim.Native.Nat.{ℕ, zero, suc, _+_, _-_, _≤_, _<_}
 use borrow.Author.Tests.{ltb-true, ltb-false, eqb-false, lt-ltb, le-ltb}
 use lib.Dec.{ltb, eqb}
-use lib.ListN.{length, take, drop}
+use lib.ListN.{length, getD, take, drop}
 use mathlib.Core.Bool.{Bool, true, false, _||_, not}
 use mathlib.Core.List.{List, [], _∷_, List·Memᴰ, List·Memᴰ·head, List·Memᴰ·tail, List·Memᴰ·not-nil, List·Memᴰ·cases-cons}
 use mathlib.Core.Logic.{⊎-elim, _⊎_, inl, inr, _≢_}
@@ -108,6 +108,15 @@ all-risen a (s ∷ rs) e h = go (unrisen a (s .bins)) refl (λ b k. all-risen b 
     go (some i) k rest =
         let z : some i ≡ none = rw (k, unrisenIn) at e in
         absurd (let w : _≡_ {A = ℕ} 0 1 = cc in omega arith)
+
+-- a bound on the number at each place
+pub fits : (w : ℕ) (s : List ℕ) → ((i : ℕ) → getD s i 0 < w) → Fits w s
+fits w [] h = record { each = λ x m. absurd (List·Memᴰ·not-nil m) }
+fits w (y ∷ s) h =
+    record {
+      each = λ x m.
+          ⊎-elim (λ (e : x ≡ y). rw e (h 0)) (λ n. fits w s (λ i. h (suc i)) .each x n) (List·Memᴰ·cases-cons m);
+    }
 
 -- What the first checks give.
 pub record Passed (numbers ends : List ℕ) (t : ℕ) : Type 0 where

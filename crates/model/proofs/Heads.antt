@@ -159,7 +159,7 @@ few-below t rs l (suc x) h =
     (λ (q : count (λ r. eqb (head r) x) rs ≤ 0). let j = no-head x rs (omega arith) in omega arith)
     (lt-or-le 0 (count (λ r. eqb (head r) x) rs)))
 
-below-mono : {x y : ℕ} → x < y → (rs : List Run) → atMost x rs ≤ below y rs
+pub below-mono : {x y : ℕ} → x < y → (rs : List Run) → atMost x rs ≤ below y rs
 unfolding atMost below
 below-mono {x} {y} h rs = count-le _ _ rs (λ r m q. let i = leb-true (head r) x q in lt-ltb (head r) y (omega arith))
 

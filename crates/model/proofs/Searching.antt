@@ -256,3 +256,26 @@ double-order (suc n) v s lo place h k =
     (lt-or-le (getD s place 0) v))
     (λ (q : length s ≤ place). rw (double-end (suc n) v s lo place q) k)
     (lt-or-le place (length s))
+
+-- the new position lies in the list
+halve-inside : (n v : ℕ) (s : List ℕ) (lo hi : ℕ) → lo ≤ hi → halving n v s lo hi .place ≤ hi
+unfolding halving
+halve-inside zero v s lo hi h = omega arith
+halve-inside (suc n) v s lo hi h =
+    ⊎-elim
+    (λ (q : 1 < hi - lo).
+    ⊎-elim
+    (λ (o : getD s (lo + (hi - lo) / 2) 0 < v). rw (halve-up n v s lo hi q o) (halve-inside n v s (lo + (hi - lo) / 2) hi (omega arith)))
+    (λ (o : v ≤ getD s (lo + (hi - lo) / 2) 0).
+    let i = halve-inside n v s lo (lo + (hi - lo) / 2) (omega arith) in rw (halve-down n v s lo hi q o) (omega arith))
+    (lt-or-le (getD s (lo + (hi - lo) / 2) 0) v))
+    (λ (q : hi - lo ≤ 1). rw (halve-end (suc n) v s lo hi q) (omega arith))
+    (lt-or-le 1 (hi - lo))
+
+pub seek-inside : (v : ℕ) (s : List ℕ) → seek v s .place ≤ length s
+unfolding seek
+seek-inside v s =
+    let i = double-inside (length s) v s 0 1 in
+    let o = double-order (length s) v s 0 1 (omega arith) (omega arith) in
+    let h = halve-inside (length s) v s (doubling (length s) v s 0 1 .lo) (doubling (length s) v s 0 1 .hi) o in
+    omega arith

@@ -91,7 +91,7 @@ at-least f rs g l q m =
     omega arith
 
 -- a search moves a run to its numbers from v on, and so does no search where the head is not below v
-searched-bins : (v l : ℕ) {a : ℕ} (s : List ℕ) → Rise a s → v ≤ pastBin
+pub searched-bins : (v l : ℕ) {a : ℕ} (s : List ℕ) → Rise a s → v ≤ pastBin
     → searched v (record { label = l; bins = s }) ≡ record { label = l; bins = from v s }
 unfolding searched head
 searched-bins v l [] g h =
@@ -172,7 +172,7 @@ no-searches v [] h = refl
 no-searches v (r ∷ rs) h =
     rw (le-ltb (head r) v (h r (List·Memᴰ·head refl)), searchIn) (no-searches v rs (λ s m. h s (List·Memᴰ·tail m)))
 
-all-equal : (f : ℕ) (rs : List Run) → ((r : Run) → List·Memᴰ r rs → f ≤ head r) → atMost f rs ≤ equal f rs
+pub all-equal : (f : ℕ) (rs : List Run) → ((r : Run) → List·Memᴰ r rs → f ≤ head r) → atMost f rs ≤ equal f rs
 unfolding atMost equal
 all-equal f rs h =
     count-le _ _ rs (λ r m q. let i = leb-true (head r) f q in let j = h r m in eq-eqb (head r) f (omega arith))

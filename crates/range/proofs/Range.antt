@@ -5,7 +5,7 @@ use borrow.Author.Tests.{lt-ltb, le-ltb, le-leb, lt-leb}
 use lib.ListN.{length, getD, take, drop, drop-of-length-le}
 use lib.Seq.{drop-cons}
 use mathlib.Core.Bool.{true, false}
-use mathlib.Core.List.{List, [], _∷_, List·Memᴰ·not-nil, List·Memᴰ·cases-cons}
+use mathlib.Core.List.{List, [], _∷_}
 use mathlib.Core.Logic.{⊎-elim}
 use mathlib.Core.Option.{Option, none, some}
 use mathlib.Core.Path.{_≡_, refl, sym, ap, _∙_}
@@ -54,15 +54,6 @@ rising-none s e = rw (e, rising)
 pub rising-some : (s : List ℕ) (i : ℕ) → unrisen 0 s ≡ some i → rising s ≡ false
 unfolding rising
 rising-some s i e = rw (e, rising)
-
--- a bound on the number at each place
-pub fits : (w : ℕ) (s : List ℕ) → ((i : ℕ) → getD s i 0 < w) → Fits w s
-fits w [] h = record { each = λ x m. absurd (List·Memᴰ·not-nil m) }
-fits w (y ∷ s) h =
-    record {
-      each = λ x m.
-          ⊎-elim (λ (e : x ≡ y). rw e (h 0)) (λ n. fits w s (λ i. h (suc i)) .each x n) (List·Memᴰ·cases-cons m);
-    }
 
 pub rising-rise : (s : List ℕ) → Fits pastBin s → rising s ≡ true → Rise 0 s
 unfolding rising

@@ -6,7 +6,8 @@ use mathlib.Core.Path.{sym, _∙_}
 use native.Mathlib.Omega.{arith}
 use Rattle.model.proofs.From.{Rise}
 use Rattle.model.specs.Runs.{pastBin}
-use Rattle.range.proofs.Range.{fits, rising-rise, between-none, between-unrisen, spans-none, spans-ranks}
+use Rattle.model.proofs.FirstChecks.{fits}
+use Rattle.range.proofs.Range.{rising-rise, between-none, between-unrisen, spans-none, spans-ranks}
 use Rattle.range.proofs.between_at.Statement.{statement}
 use Rattle.range.proofs.between_at.Tie as tie
 

@@ -1,0 +1,186 @@
+-- The checker's loop over the parts, one turn at a time. Assumes nothing.
+use Prim.Native.Nat.{ℕ, zero, suc, _+_, _-_, _≤_, _<_}
+use borrow.Author.Tests.{eq-eqb, ne-eqb}
+use lib.Dec.{eqb}
+use lib.ListN.{length, getD, drop, drop-of-length-le}
+use lib.Seq.{drop-cons}
+use mathlib.Core.Bool.{true, false}
+use mathlib.Core.List.{List, [], _∷_}
+use mathlib.Core.Logic.{_≢_}
+use mathlib.Core.Path.{_≡_, refl, sym, ap, ap₂, _∙_, subst}
+use native.Mathlib.Omega.{arith}
+use Rattle.fields.specs.Fields.{partOf, readingOf, EndsFrom}
+use Rattle.fields.specs.declared.Field as field
+use Rattle.fields.specs.declared.Field.the-variants.{Read, Unreadable}
+use Rattle.fields.specs.declared.Part as code
+use Rattle.model.specs.Certificate.{Part, answer, gap, lastOf, sizeOf, unreadable, read, readField}
+use Rattle.model.specs.Refusals.{passed, refusal, Verdict, valid, invalid, checkPart, counted, atEnd, checkFrom}
+use Rattle.model.specs.Runs.{Run, pastBin, runs}
+use Rattle.checker.specs.Cursors.{Cursors, numbered, PartChecked, answersIn}
+
+-- ---- one field
+
+from-unreadable : (fuel : ℕ) (rs : List Run) (t b at x : ℕ) (bytes : List ℕ) → readField (x ∷ bytes) ≡ unreadable
+    → checkFrom (suc fuel) rs t b at (x ∷ bytes) ≡ invalid 8 at
+unfolding checkFrom
+from-unreadable fuel rs t b at x bytes e = rw (e, checkFrom)
+
+from-refused : (fuel : ℕ) (rs : List Run) (t b at x n place : ℕ) (bytes rest : List ℕ) (p : Part) → readField (x ∷ bytes) ≡ read p rest
+    → checkPart rs t b at p ≡ refusal n place → checkFrom (suc fuel) rs t b at (x ∷ bytes) ≡ invalid n place
+unfolding checkFrom
+from-refused fuel rs t b at x n place bytes rest p e h = rw (e, checkFrom, h)
+
+from-passed : (fuel : ℕ) (rs : List Run) (t b at x : ℕ) (bytes rest : List ℕ) (p : Part) → readField (x ∷ bytes) ≡ read p rest → checkPart rs t b at p ≡ passed
+    → checkFrom (suc fuel) rs t b at (x ∷ bytes) ≡ counted p (checkFrom fuel rs t (suc (lastOf p)) (at + sizeOf p) rest)
+unfolding checkFrom
+from-passed fuel rs t b at x bytes rest p e h = rw (e, checkFrom, h)
+
+from-end : (fuel : ℕ) (rs : List Run) (t b at : ℕ) → checkFrom fuel rs t b at [] ≡ atEnd b at
+unfolding checkFrom
+from-end zero rs t b at = refl
+from-end (suc fuel) rs t b at = refl
+
+pub size-pos : (p : Part) → 0 < sizeOf p
+unfolding sizeOf
+size-pos (answer v m) = omega arith
+size-pos (gap f l m) = omega arith
+
+pub answers-few : (p : Part) → answersIn p ≤ 1
+unfolding answersIn
+answers-few (answer v m) = omega arith
+answers-few (gap f l m) = omega arith
+
+-- ---- counts
+
+unfoldable pub plus : ℕ → ℕ → Verdict → Verdict
+plus a n (valid x y) = valid (a + x) (n + y)
+plus a n (invalid x y) = invalid x y
+
+plus-none : (v : Verdict) → plus 0 0 v ≡ v
+unfolding plus
+plus-none (valid x y) = let i : 0 + x ≡ x = omega arith in let j : 0 + y ≡ y = omega arith in ap₂ valid i j
+plus-none (invalid x y) = refl
+
+plus-counted : (a n : ℕ) (p : Part) (v : Verdict) → plus a n (counted p v) ≡ plus (a + answersIn p) (n + 1) v
+unfolding plus counted answersIn
+plus-counted a n (answer w m) (valid x y) =
+    let i : a + suc x ≡ a + 1 + x = omega arith in
+    let j : n + suc y ≡ n + 1 + y = omega arith in
+    ap₂ valid i j
+plus-counted a n (answer w m) (invalid x y) = refl
+plus-counted a n (gap f l m) (valid x y) =
+    let i : a + x ≡ a + 0 + x = omega arith in
+    let j : n + suc y ≡ n + 1 + y = omega arith in
+    ap₂ valid i j
+plus-counted a n (gap f l m) (invalid x y) = refl
+
+-- ---- the loop
+
+pub record Along (numbers ends : List ℕ) (t : ℕ) (certificate positions : List ℕ) (bin at answers parts : ℕ) : Type 0 where
+  pub cursors : Cursors numbers ends positions bin
+  pub same : checkFrom (length certificate) (runs numbers ends) t 0 0 certificate
+      ≡ plus answers parts (checkFrom (length certificate - parts) (runs numbers ends) t bin at (drop at certificate))
+  pub few : answers ≤ parts
+  pub slow : parts ≤ at
+
+pub along-start : (numbers ends : List ℕ) (t : ℕ) (certificate positions : List ℕ) → Cursors numbers ends positions 0
+    → Along numbers ends t certificate positions 0 0 0 0
+along-start numbers ends t certificate positions c =
+    let z : length certificate - 0 ≡ length certificate = omega arith in
+    record {
+      cursors = c;
+      same =
+          sym (plus-none (checkFrom (length certificate) (runs numbers ends) t 0 0 certificate))
+          ∙ (λ i. plus 0 0 (checkFrom (sym z i) (runs numbers ends) t 0 0 certificate));
+      few = omega arith;
+      slow = omega arith;
+    }
+
+module _ (numbers ends : List ℕ) (t : ℕ) (certificate positions : List ℕ) (bin at answers parts : ℕ)
+    (h : Along numbers ends t certificate positions bin at answers parts) where
+  step : at < length certificate
+      → checkFrom (length certificate) (runs numbers ends) t 0 0 certificate
+      ≡ plus answers parts
+      (checkFrom (suc (length certificate - (parts + 1))) (runs numbers ends) t bin at (getD certificate at 0 ∷ drop (suc at) certificate))
+  step l =
+      let s = h .slow in
+      let z : length certificate - parts ≡ suc (length certificate - (parts + 1)) = omega arith in
+      let d = drop-cons certificate at 0 l in
+      h .same ∙ (λ i. plus answers parts (checkFrom (z i) (runs numbers ends) t bin at (d i)))
+
+  pub along-unreadable : at < length certificate → (x : field.Field) → x ≡ Unreadable → readingOf certificate x ≡ readField (drop at certificate)
+      → invalid 8 at ≡ checkFrom (length certificate) (runs numbers ends) t 0 0 certificate
+  unfolding readingOf plus
+  along-unreadable l x e r =
+      let d = drop-cons certificate at 0 l in
+      let u : readField (getD certificate at 0 ∷ drop (suc at) certificate) ≡ unreadable =
+      ap readField (sym d) ∙ (sym r ∙ ap (readingOf certificate) e) in
+      sym (step l ∙ ap (plus answers parts) (from-unreadable (length certificate - (parts + 1)) (runs numbers ends) t bin at (getD certificate at 0) (drop (suc at) certificate) u))
+
+  readable : at < length certificate → (x : field.Field) (q : code.Part) (next : ℕ) → x ≡ Read q next → readingOf certificate x ≡ readField (drop at certificate)
+      → readField (getD certificate at 0 ∷ drop (suc at) certificate) ≡ read (partOf q) (drop next certificate)
+  unfolding readingOf
+  readable l x q next e r = ap readField (sym (drop-cons certificate at 0 l)) ∙ (sym r ∙ ap (readingOf certificate) e)
+
+  pub next-is : (x : field.Field) (q : code.Part) (next : ℕ) → x ≡ Read q next → EndsFrom at x → next ≡ at + sizeOf (partOf q)
+  unfolding EndsFrom
+  next-is x q next e r = subst (λ y. EndsFrom at y) e r
+
+  pub along-refused : at < length certificate → (x : field.Field) (q : code.Part) (next : ℕ) → x ≡ Read q next
+      → readingOf certificate x ≡ readField (drop at certificate) → (positions′ : List ℕ) (number : ℕ)
+      → PartChecked numbers ends t bin (partOf q) positions′ number → number ≢ 0
+      → invalid number at ≡ checkFrom (length certificate) (runs numbers ends) t 0 0 certificate
+  unfolding plus numbered
+  along-refused l x q next e r positions′ zero c n = absurd (n refl)
+  along-refused l x q next e r positions′ (suc number) c n =
+      sym
+      (step l
+      ∙ ap (plus answers parts)
+      (from-refused (length certificate - (parts + 1)) (runs numbers ends) t bin at (getD certificate at 0) (suc number) at (drop (suc at) certificate)
+      (drop next certificate) (partOf q) (readable l x q next e r) (c .refused-by at)))
+
+  pub along-on : at < length certificate → (x : field.Field) (q : code.Part) (next : ℕ) → x ≡ Read q next
+      → readingOf certificate x ≡ readField (drop at certificate) → EndsFrom at x → (positions′ : List ℕ) (number : ℕ)
+      → PartChecked numbers ends t bin (partOf q) positions′ number → number ≡ 0 → (bin′ more : ℕ) → bin′ ≡ suc (lastOf (partOf q))
+      → more ≡ answersIn (partOf q) → Along numbers ends t certificate positions′ bin′ next (answers + more) (parts + 1)
+  unfolding numbered
+  along-on l x q next e r d positions′ number c n bin′ more eb em =
+      let y = next-is x q next e d in
+      let s = size-pos (partOf q) in
+      let w = answers-few (partOf q) in
+      let o = h .few in
+      let k = h .slow in
+      record {
+        cursors = subst (λ z. Cursors numbers ends positions′ z) (sym eb) (c .cursors n);
+        same =
+            step l
+            ∙ (ap (plus answers parts)
+            (from-passed (length certificate - (parts + 1)) (runs numbers ends) t bin at (getD certificate at 0) (drop (suc at) certificate)
+            (drop next certificate) (partOf q) (readable l x q next e r) (c .refused-by at ∙ ap (λ z. numbered z at) n))
+            ∙ (plus-counted answers parts (partOf q) _
+            ∙ (λ i.
+            plus (answers + sym em i) (parts + 1)
+            (checkFrom (length certificate - (parts + 1)) (runs numbers ends) t (sym eb i) (sym y i) (drop next certificate)))));
+        few = omega arith;
+        slow = omega arith;
+      }
+
+  pub along-valid : length certificate ≤ at → bin ≡ 4294967296 → valid answers parts ≡ checkFrom (length certificate) (runs numbers ends) t 0 0 certificate
+  unfolding plus atEnd pastBin
+  along-valid l e =
+      let i : answers + 0 ≡ answers = omega arith in
+      let j : parts + 0 ≡ parts = omega arith in
+      let k : atEnd bin at ≡ valid 0 0 = rw (eq-eqb bin 4294967296 e, atEnd) in
+      sym
+      (h .same
+      ∙ ((λ z. plus answers parts (checkFrom (length certificate - parts) (runs numbers ends) t bin at (drop-of-length-le certificate l z)))
+      ∙ (ap (plus answers parts) (from-end (length certificate - parts) (runs numbers ends) t bin at ∙ k) ∙ ap₂ valid i j)))
+
+  pub along-uncovered : length certificate ≤ at → bin ≢ 4294967296 → invalid 9 at ≡ checkFrom (length certificate) (runs numbers ends) t 0 0 certificate
+  unfolding plus atEnd pastBin
+  along-uncovered l n =
+      let k : atEnd bin at ≡ invalid 9 at = rw (ne-eqb bin 4294967296 n, atEnd) in
+      sym
+      (h .same
+      ∙ ((λ z. plus answers parts (checkFrom (length certificate - parts) (runs numbers ends) t bin at (drop-of-length-le certificate l z)))
+      ∙ ap (plus answers parts) (from-end (length certificate - parts) (runs numbers ends) t bin at ∙ k)))

@@ -1,0 +1,6 @@
+pub mod Accepting
+pub mod Following
+pub mod Moving
+pub mod Naming
+pub mod Placing
+pub mod Testing

@@ -1,0 +1,83 @@
+-- The cursors put at the runs' first numbers, and what the first checks give for them. Assumes nothing.
+use Prim.Native.Nat.{ℕ, zero, suc, _+_, _-_, _≤_, _<_}
+use lib.ListN.{length, getD, take, drop, set, length-set}
+use lib.Seq.{getD-set-same, getD-set-other}
+use mathlib.Core.List.{List, [], _∷_, List·Memᴰ, List·Memᴰ·head, List·Memᴰ·tail}
+use mathlib.Core.Logic.{⊎-elim, _≢_}
+use mathlib.Core.Path.{_≡_, refl, sym, ap, _∙_, subst}
+use native.Mathlib.Numerals.{add-one}
+use native.Mathlib.Omega.{arith}
+use Rattle.first_checks.proofs.Laws.{Ordered, next-end, next-ordered}
+use Rattle.model.proofs.FirstChecks.{first-passed, fit}
+use Rattle.model.proofs.From.{Rise, from}
+use Rattle.model.proofs.Tests.{eq-or-ne}
+use Rattle.model.specs.Demands.{Fits}
+use Rattle.model.specs.Refusals.{passed, firstChecks}
+use Rattle.model.specs.Runs.{Run, pastBin, runs, runsFrom}
+use Rattle.checker.specs.Cursors.{from-place, startOf, binsOf, Cursors, Begins}
+
+-- the cursors of the runs before i are placed
+pub record Placed (ends positions : List ℕ) (start i : ℕ) : Type 0 where
+  pub lengths : length positions ≡ length ends
+  pub next : start ≡ startOf ends i
+  pub each : (j : ℕ) → j < i → getD positions j 0 ≡ startOf ends j
+
+pub placed-none : (ends positions : List ℕ) → length positions ≡ length ends → Placed ends positions 0 0
+placed-none ends positions e = record { lengths = e; next = refl; each = λ j h. absurd (omega arith) }
+
+pub placed-on : (ends positions : List ℕ) (start i : ℕ) → i < length ends → Placed ends positions start i
+    → Placed ends (set positions i start) (getD ends i 0) (i + 1)
+placed-on ends positions start i l p =
+    let z = p .lengths in
+    record {
+      lengths = length-set positions i start ∙ z;
+      next = ap (startOf ends) (sym (add-one i));
+      each = λ j h.
+          ⊎-elim
+          (λ (w : j ≡ i).
+          subst (λ x. getD (set positions i start) x 0 ≡ startOf ends x) (sym w) (getD-set-same positions i start 0 (omega arith) ∙ p .next))
+          (λ (w : j ≢ i). getD-set-other positions i j start 0 w ∙ p .each j (omega arith))
+          (eq-or-ne j i);
+    }
+
+pub placed-all : (numbers ends positions₀ positions : List ℕ) (start i : ℕ) → Begins numbers ends positions₀ → length ends ≤ i → Placed ends positions start i
+    → Cursors numbers ends positions 0
+placed-all numbers ends positions₀ positions start i b l p =
+    record {
+      few = b .few;
+      inside = b .inside;
+      risen = b .risen;
+      lengths = p .lengths;
+      before = λ j h. let e = p .each j (omega arith) in let s = b .starts j h in omega arith;
+      same = λ j h v q. λ s. from v (from-place numbers (sym (p .each j (omega arith)) s) (getD ends j 0));
+    }
+
+-- ---- what the first checks give
+
+ordered : (numbers ends : List ℕ) → Ordered numbers ends 0 0 → (i : ℕ) → i < length ends → Ordered numbers ends (startOf ends i) i
+ordered numbers ends o zero h = o
+ordered numbers ends o (suc i) h =
+    subst (λ x. Ordered numbers ends (getD ends i 0) x) (add-one i)
+    (next-ordered numbers ends (startOf ends i) i (omega arith) (ordered numbers ends o i (omega arith)))
+
+member : (i a : ℕ) (numbers ends : List ℕ) (j : ℕ) → j < length ends
+    → (n : ℕ) × List·Memᴰ (record { label = n; bins = from-place numbers (getD (a ∷ ends) j 0) (getD ends j 0) }) (runsFrom i a numbers ends)
+unfolding runsFrom
+member i a numbers [] j h = absurd (omega arith)
+member i a numbers (e ∷ ends) zero h = (i, List·Memᴰ·head refl)
+member i a numbers (e ∷ ends) (suc j) h = let m = member (suc i) e numbers ends j (omega arith) in (m .0, List·Memᴰ·tail (m .1))
+
+pub begins : (numbers ends : List ℕ) (t : ℕ) (positions : List ℕ) → Fits pastBin numbers → firstChecks numbers ends t ≡ passed → length positions ≡ length ends
+    → Begins numbers ends positions
+unfolding runs
+begins numbers ends t positions f e l =
+    let p = first-passed numbers ends t e in
+    let o : Ordered numbers ends 0 0 = record { rise = p .ends-rise; last = p .ends-last } in
+    let r = fit numbers ends t f e in
+    record {
+      few = p .few-runs;
+      starts = λ i h. next-end numbers ends (startOf ends i) i h (ordered numbers ends o i h) .0;
+      inside = λ i h. next-end numbers ends (startOf ends i) i h (ordered numbers ends o i h) .1;
+      risen = λ i h. let m = member 0 0 numbers ends i h in r .rising .each _ (m .1);
+      lengths = l;
+    }

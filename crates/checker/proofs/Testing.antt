@@ -1,0 +1,139 @@
+-- The tests of one part, each as a law about the model's checks in order. Assumes nothing.
+use Prim.Native.Nat.{ℕ, zero, suc, _+_, _-_, _/_, _^_, _≤_, _<_}
+use borrow.Author.Tests.{eq-eqb, ne-eqb, lt-ltb, le-ltb}
+use lib.Count.{ones}
+use lib.Dec.{ltb, eqb}
+use lib.ListN.{length, getD}
+use mathlib.Core.Bool.{Bool, true, false, _||_, not}
+use mathlib.Core.List.{List}
+use mathlib.Core.Logic.{_≢_}
+use mathlib.Core.Path.{_≡_, refl, sym, ap, _∙_, subst}
+use native.Mathlib.Numerals.{add-one}
+use native.Mathlib.Omega.{arith}
+use Rattle.fields.specs.Fields.{partOf}
+use Rattle.fields.specs.declared.Part as code
+use Rattle.fields.specs.declared.Part.the-variants.{Answer, Gap}
+use Rattle.model.proofs.FirstChecks.{runs-length}
+use Rattle.model.specs.Certificate.{firstOf, lastOf}
+use Rattle.model.specs.Refusals.{_then_, refuseIf, misplaced, misnamed, anyContradicts, checkPart}
+use Rattle.model.specs.Runs.{pastBin, runs}
+use Rattle.checker.specs.Cursors.{Cursors, claim, needed, numbered, Tested, PartChecked, answersIn}
+
+pub misnames-few : (b : Bool) (x y few : ℕ) → b ≡ true → x ≡ y → ltb x few ≡ (not b || ltb y few)
+misnames-few b x y few e h = rw (e, h)
+
+pub misnames-other : (b c : Bool) → b ≡ false → true ≡ (not b || c)
+misnames-other b c e = rw e
+
+pub weaken : (numbers ends positions : List ℕ) (a b : ℕ) → a ≤ b → Cursors numbers ends positions a → Cursors numbers ends positions b
+weaken numbers ends positions a b h c =
+    record {
+      few = c .few;
+      inside = c .inside;
+      risen = c .risen;
+      lengths = c .lengths;
+      before = c .before;
+      same = λ i l v q. c .same i l v (omega arith);
+    }
+
+first-is : (held : Bool) (f l m : ℕ) → firstOf (claim held f l m) ≡ f
+unfolding claim firstOf
+first-is true f l m = refl
+first-is false f l m = refl
+
+runs-are : (numbers ends : List ℕ) → length (runs numbers ends) ≡ length ends
+unfolding runs
+runs-are numbers ends = runs-length 0 0 numbers ends
+
+named-is : (numbers ends : List ℕ) (held : Bool) (f l m few t : ℕ) → few ≡ needed (length ends) t held
+    → misnamed (length (runs numbers ends)) t (claim held f l m) ≡ (not (eqb (m / 2 ^ length ends) 0) || ltb (ones m) few)
+unfolding misnamed claim needed
+named-is numbers ends true f l m few t q = rw (runs-are numbers ends, q)
+named-is numbers ends false f l m few t q = rw (runs-are numbers ends, q)
+
+module _ (numbers ends : List ℕ) (b : ℕ) (held : Bool) (f l m few : ℕ) (positions : List ℕ) (el : lastOf (claim held f l m) ≡ l) where
+  misplaced-here : misplaced b (claim held f l m) ≡ true → Tested numbers ends b held f l m few positions 9
+  unfolding checkPart _then_ refuseIf numbered
+  misplaced-here e = record { refused-by = λ t at q. rw e; cursors = λ z. absurd (omega arith) }
+
+  pub other-first : f ≢ b → Tested numbers ends b held f l m few positions 9
+  unfolding misplaced
+  other-first n = misplaced-here (rw (first-is held f l m, ne-eqb f b n))
+
+  pub other-last : f ≡ b → l < f → Tested numbers ends b held f l m few positions 9
+  unfolding misplaced
+  other-last e h = misplaced-here (rw (first-is held f l m, el, eq-eqb f b e, lt-ltb l f h))
+
+  placed : f ≡ b → f ≤ l → f < pastBin → misplaced b (claim held f l m) ≡ false
+  unfolding misplaced
+  placed e h k =
+      let n : b ≢ pastBin = omega arith in
+      rw (first-is held f l m, el, eq-eqb f b e, le-ltb l f h, ne-eqb b pastBin n)
+
+  pub misnamed-here : f ≡ b → f ≤ l → f < pastBin → (x : Bool) → x ≡ (not (eqb (m / 2 ^ length ends) 0) || ltb (ones m) few) → x ≡ true
+      → Tested numbers ends b held f l m few positions 10
+  unfolding checkPart _then_ refuseIf numbered
+  misnamed-here e h k x i j =
+      record {
+        refused-by = λ t at q. rw (placed e h k, named-is numbers ends held f l m few t q ∙ (sym i ∙ j));
+        cursors = λ z. absurd (omega arith);
+      }
+
+  pub contradicted-here : f ≡ b → f ≤ l → f < pastBin → (x : Bool) → x ≡ (not (eqb (m / 2 ^ length ends) 0) || ltb (ones m) few) → x ≡ false
+      → (y : Bool) → y ≡ anyContradicts (claim held f l m) (runs numbers ends) → y ≡ true → Tested numbers ends b held f l m few positions 11
+  unfolding checkPart _then_ refuseIf numbered
+  contradicted-here e h k x i j y u v =
+      record {
+        refused-by = λ t at q. rw (placed e h k, named-is numbers ends held f l m few t q ∙ (sym i ∙ j), sym u ∙ v);
+        cursors = λ z. absurd (omega arith);
+      }
+
+  pub passed-here : f ≡ b → f ≤ l → f < pastBin → (x : Bool) → x ≡ (not (eqb (m / 2 ^ length ends) 0) || ltb (ones m) few) → x ≡ false
+      → (y : Bool) → y ≡ anyContradicts (claim held f l m) (runs numbers ends) → y ≡ false → Cursors numbers ends positions f
+      → Tested numbers ends b held f l m few positions 0
+  unfolding checkPart _then_ refuseIf numbered
+  passed-here e h k x i j y u v c =
+      record {
+        refused-by = λ t at q. rw (placed e h k, named-is numbers ends held f l m few t q ∙ (sym i ∙ j), sym u ∙ v);
+        cursors = λ z. weaken numbers ends positions f (suc (lastOf (claim held f l m))) (omega arith) c;
+      }
+
+-- ---- the code's parts
+
+pub answer-last : (v m : ℕ) → lastOf (claim true v v m) ≡ v
+unfolding claim lastOf
+answer-last v m = refl
+
+pub gap-last : (f l m : ℕ) → lastOf (claim false f l m) ≡ l
+unfolding claim lastOf
+gap-last f l m = refl
+
+pub answer-checked : (numbers ends : List ℕ) (b v m t : ℕ) (positions : List ℕ) (n : ℕ) (q : code.Part) → q ≡ Answer v m
+    → Tested numbers ends b true v v m t positions n → PartChecked numbers ends t b (partOf q) positions n
+unfolding claim needed partOf
+answer-checked numbers ends b v m t positions n q e h =
+    subst (λ x. PartChecked numbers ends t b (partOf x) positions n) (sym e)
+    (record { refused-by = λ at. h .refused-by t at refl; cursors = h .cursors })
+
+pub gap-checked : (numbers ends : List ℕ) (b f l m t : ℕ) (positions : List ℕ) (n : ℕ) (q : code.Part) → q ≡ Gap f l m
+    → Tested numbers ends b false f l m (length ends - t + 1) positions n → PartChecked numbers ends t b (partOf q) positions n
+unfolding claim needed partOf
+gap-checked numbers ends b f l m t positions n q e h =
+    subst (λ x. PartChecked numbers ends t b (partOf x) positions n) (sym e)
+    (record { refused-by = λ at. h .refused-by t at refl; cursors = h .cursors })
+
+pub past-answer : (v m : ℕ) (q : code.Part) → q ≡ Answer v m → v + 1 ≡ suc (lastOf (partOf q))
+unfolding partOf lastOf
+past-answer v m q e = add-one v ∙ sym (ap (λ x. suc (lastOf (partOf x))) e)
+
+pub past-gap : (f l m : ℕ) (q : code.Part) → q ≡ Gap f l m → l + 1 ≡ suc (lastOf (partOf q))
+unfolding partOf lastOf
+past-gap f l m q e = add-one l ∙ sym (ap (λ x. suc (lastOf (partOf x))) e)
+
+pub one-answer : (v m : ℕ) (q : code.Part) → q ≡ Answer v m → 1 ≡ answersIn (partOf q)
+unfolding partOf answersIn
+one-answer v m q e = sym (ap (λ x. answersIn (partOf x)) e)
+
+pub no-answer : (f l m : ℕ) (q : code.Part) → q ≡ Gap f l m → 0 ≡ answersIn (partOf q)
+unfolding partOf answersIn
+no-answer f l m q e = sym (ap (λ x. answersIn (partOf x)) e)

@@ -1,0 +1,6 @@
+pub mod Beginning
+pub mod Going
+pub mod Moving
+pub mod Runs
+pub mod Searches
+pub mod Steps

@@ -1,0 +1,68 @@
+//! Rows and thresholds that the first checks refuse.
+
+use crate::random::Random;
+use crate::M;
+
+/// Returns a threshold: mostly good, at times 0, one above `k` or far too
+/// large.
+pub fn any_threshold(random: &mut Random, k: usize) -> u32 {
+    match random.below(20) {
+        0 => random.pick(&[0, k as u32 + 1, M]),
+        1 => random.pick(&[1, 2, k as u32 / 2, k as u32]),
+        _ => random.from_to(1, k.max(1)) as u32,
+    }
+}
+
+/// Breaks the rows in one way. They may still pass the first checks.
+pub fn break_rows(random: &mut Random, numbers: &mut Vec<u32>, ends: &mut Vec<u32>) {
+    match random.below(10) {
+        // An end that falls.
+        0 if ends.len() > 1 => {
+            let i = random.from_to(1, ends.len() - 1);
+            ends[i] = random.below(ends[i - 1].max(1) as usize) as u32;
+        }
+        1 if ends.len() > 1 => {
+            let i = random.from_to(1, ends.len() - 1);
+            ends.swap(i - 1, i);
+        }
+        2 if !ends.is_empty() => {
+            let i = random.below(ends.len());
+            ends[i] = any_end(random, numbers.len());
+        }
+        // A last end that is wrong.
+        3 if !ends.is_empty() => {
+            let last = ends.len() - 1;
+            ends[last] = match random.below(3) {
+                0 => ends[last].wrapping_add(1),
+                1 => ends[last].wrapping_sub(1),
+                _ => any_end(random, numbers.len()),
+            };
+        }
+        4 => drop(numbers.pop()),
+        5 => numbers.push(random.word()),
+        // A number that is not above the one before it.
+        6 if numbers.len() > 1 => {
+            let i = random.from_to(1, numbers.len() - 1);
+            numbers[i] = numbers[i - 1];
+        }
+        7 if numbers.len() > 1 => {
+            let i = random.from_to(1, numbers.len() - 1);
+            numbers.swap(i - 1, i);
+        }
+        8 if !numbers.is_empty() => {
+            let i = random.below(numbers.len());
+            numbers[i] = random.pick(&[0, M, numbers[i].wrapping_sub(1)]);
+        }
+        // One run more or less.
+        _ if random.one_in(2) => ends.push(numbers.len() as u32),
+        _ => drop(ends.pop()),
+    }
+}
+
+fn any_end(random: &mut Random, length: usize) -> u32 {
+    match random.below(4) {
+        0 => random.word(),
+        1 => random.pick(&[M, M - 1, 1_048_576, 1_048_577]),
+        _ => random.below(length + 3) as u32,
+    }
+}

@@ -1,0 +1,336 @@
+//! Certificates: true ones of many forms, and damaged ones.
+
+use crate::random::Random;
+use crate::M;
+use reference::Part;
+
+/// Runs and a threshold that pass the first checks.
+#[derive(Clone, Copy)]
+pub struct Task<'a> {
+    /// The runs, from 1 to 64.
+    pub runs: &'a [&'a [u32]],
+    /// From 1 to the number of runs.
+    pub threshold: u32,
+}
+
+impl Task<'_> {
+    /// The mask of the runs that have a number from `first` to `last`.
+    fn holding(&self, first: u32, last: u32) -> u64 {
+        let holds = |run: &[u32]| {
+            let place = run.partition_point(|&x| x < first);
+            run.get(place).is_some_and(|&x| x <= last)
+        };
+        let bit = |(i, run): (usize, &&[u32])| u64::from(holds(run)) << i;
+        self.runs.iter().enumerate().map(bit).sum()
+    }
+
+    fn missing(&self, first: u32, last: u32) -> u64 {
+        u64::MAX >> (64 - self.runs.len()) & !self.holding(first, last)
+    }
+
+    /// How many runs a gap names at least.
+    fn needed_by_gap(&self) -> u32 {
+        self.runs.len() as u32 - self.threshold + 1
+    }
+
+    /// A gap that names some of the runs that miss it, `None` if too few do.
+    fn gap(&self, random: &mut Random, first: u32, last: u32) -> Option<Part> {
+        let mask = some_of(random, self.missing(first, last), self.needed_by_gap())?;
+        Some(Part::Gap { first, last, mask })
+    }
+
+    /// An answer that names some of the runs that hold it, `None` if too few
+    /// do.
+    fn answer(&self, random: &mut Random, value: u32) -> Option<Part> {
+        let mask = some_of(random, self.holding(value, value), self.threshold)?;
+        Some(Part::Answer { value, mask })
+    }
+
+    /// The last number to which a gap that begins at `first` may reach;
+    /// `None` if there is no such gap.
+    fn farthest(&self, first: u32) -> Option<u32> {
+        let next = |run: &&[u32]| {
+            let place = run.partition_point(|&x| x < first);
+            run.get(place).map_or(1 << 32, |&x| u64::from(x))
+        };
+        let mut stops: Vec<u64> = self.runs.iter().map(next).collect();
+        stops.sort_unstable();
+        let stop = stops[self.threshold as usize - 1];
+        (stop > u64::from(first)).then(|| (stop - 1) as u32)
+    }
+
+    /// A true certificate cut and masked at random, found without the walk.
+    pub fn any_true(&self, random: &mut Random) -> Vec<Part> {
+        let mut parts = Vec::new();
+        let mut next = 0;
+        // How often a gap is cut short; never once there are many parts.
+        let odds = random.pick(&[2, 5, 1_000]);
+        loop {
+            let part = match self.farthest(next) {
+                None => self.answer(random, next),
+                Some(farthest) => {
+                    let last = match random.one_in(odds) && parts.len() < 200 {
+                        true => self.cut(random, next, farthest),
+                        false => farthest,
+                    };
+                    self.gap(random, next, last)
+                }
+            };
+            let part = part.expect("at most t - 1 runs hold a number or at least t do");
+            parts.push(part);
+            if part.last() == M {
+                return parts;
+            }
+            next = part.last() + 1;
+        }
+    }
+
+    /// A number from `first` to `last`, often near one of them.
+    fn cut(&self, random: &mut Random, first: u32, last: u32) -> u32 {
+        let width = last - first;
+        match random.below(4) {
+            0 => first,
+            1 => first + width.min(1),
+            2 => last - width.min(1),
+            _ => first + random.below(width as usize + 1) as u32,
+        }
+    }
+
+    /// Changes a true certificate into another: splits a gap, merges two,
+    /// moves the border between two or names other runs.
+    pub fn rewrite(&self, random: &mut Random, parts: &mut Vec<Part>) {
+        let i = random.below(parts.len());
+        let (first, last) = (parts[i].first(), parts[i].last());
+        let next_gap = match (parts[i], parts.get(i + 1)) {
+            (Part::Gap { .. }, Some(&Part::Gap { last, .. })) => Some(last),
+            _ => None,
+        };
+        match (parts[i], next_gap) {
+            (Part::Gap { .. }, Some(end)) if random.one_in(3) => {
+                if let Some(merged) = self.gap(random, first, end) {
+                    parts.splice(i..i + 2, [merged]);
+                }
+            }
+            (Part::Gap { .. }, Some(end)) if random.one_in(2) => {
+                let border = self.cut(random, first, end - 1);
+                let left = self.gap(random, first, border);
+                let right = self.gap(random, border + 1, end);
+                if let (Some(left), Some(right)) = (left, right) {
+                    parts.splice(i..i + 2, [left, right]);
+                }
+            }
+            (Part::Gap { .. }, _) if first < last && random.one_in(2) => {
+                let border = self.cut(random, first, last - 1);
+                let left = self.gap(random, first, border);
+                let right = self.gap(random, border + 1, last);
+                parts.splice(i..i + 1, [left, right].into_iter().flatten());
+            }
+            (Part::Gap { .. }, _) => {
+                parts[i] = self.gap(random, first, last).unwrap_or(parts[i]);
+            }
+            (Part::Answer { value, .. }, _) => {
+                parts[i] = self.answer(random, value).unwrap_or(parts[i]);
+            }
+        }
+    }
+
+    /// Changes one or two parts, which most often makes the whole untrue.
+    pub fn damage_parts(&self, random: &mut Random, parts: &mut Vec<Part>) {
+        let k = self.runs.len();
+        if parts.is_empty() {
+            return;
+        }
+        let i = random.below(parts.len());
+        let j = random.below(parts.len());
+        let (first, last, mask) = (parts[i].first(), parts[i].last(), parts[i].mask());
+        let with_mask = |mask| match parts[i] {
+            Part::Answer { value, .. } => Part::Answer { value, mask },
+            Part::Gap { first, last, .. } => Part::Gap { first, last, mask },
+        };
+        match random.below(12) {
+            // A gap one number too wide, the part beside it narrowed or not.
+            0 | 1 => widen(random, parts, i),
+            // A run beyond the last.
+            2 => parts[i] = with_mask(mask | 1 << random.from_to(k.min(63), 63)),
+            // One name more or less, or other names.
+            3 => parts[i] = with_mask(mask ^ 1 << random.below(k)),
+            4 => {
+                let all = u64::MAX >> (64 - k);
+                let masks = [0, all, u64::MAX, !mask & all, mask & mask.wrapping_sub(1)];
+                parts[i] = with_mask(random.pick(&masks));
+            }
+            5 => parts.swap(i, j),
+            6 => drop(parts.remove(i)),
+            7 => parts.insert(j, parts[i]),
+            // The other kind.
+            8 => {
+                parts[i] = match parts[i] {
+                    Part::Answer { value, mask } => Part::Gap {
+                        first: value,
+                        last: value,
+                        mask,
+                    },
+                    Part::Gap { first, mask, .. } => Part::Answer { value: first, mask },
+                }
+            }
+            // Other numbers.
+            9 => {
+                let near = |random: &mut Random, x: u32| match random.below(4) {
+                    0 => x.wrapping_sub(1),
+                    1 => x.wrapping_add(1),
+                    2 => random.pick(&[0, M, first, last]),
+                    _ => x,
+                };
+                let (first, last) = (near(random, first), near(random, last));
+                parts[i] = match parts[i] {
+                    Part::Answer { mask, .. } => Part::Answer { value: first, mask },
+                    Part::Gap { mask, .. } => Part::Gap { first, last, mask },
+                }
+            }
+            // First and last the wrong way round.
+            10 => {
+                if let Part::Gap { mask, .. } = parts[i] {
+                    let (first, last) = (last, first);
+                    parts[i] = Part::Gap { first, last, mask };
+                }
+            }
+            // Something after the largest number.
+            _ => {
+                let first = random.pick(&[0, 1, M - 1, M]);
+                let last = random.pick(&[0, first, M]);
+                parts.push(match random.one_in(2) {
+                    true => Part::Answer { value: first, mask },
+                    false => Part::Gap { first, last, mask },
+                });
+            }
+        }
+    }
+}
+
+/// At least `least` of the runs that the mask names; `None` if it names fewer.
+fn some_of(random: &mut Random, mask: u64, least: u32) -> Option<u64> {
+    let spare = mask.count_ones().checked_sub(least)?;
+    let dropped = match random.below(3) {
+        0 => 0,
+        1 => spare,
+        _ => random.below(spare as usize + 1) as u32,
+    };
+    let mut mask = mask;
+    for _ in 0..dropped {
+        let names: Vec<u64> = (0..64).map(|i| mask & 1 << i).filter(|&b| b != 0).collect();
+        mask ^= random.pick(&names);
+    }
+    Some(mask)
+}
+
+/// Moves one end of a gap outwards by one. In most cases the part beside it
+/// is narrowed by as much, or left out if it becomes empty.
+fn widen(random: &mut Random, parts: &mut Vec<Part>, i: usize) {
+    let Part::Gap { first, last, mask } = parts[i] else {
+        return;
+    };
+    let to_the_right = random.one_in(2);
+    let narrow = !random.one_in(4);
+    let beside = match to_the_right {
+        true if last < M => {
+            parts[i] = Part::Gap {
+                first,
+                last: last + 1,
+                mask,
+            };
+            i + 1
+        }
+        false if first > 0 && i > 0 => {
+            parts[i] = Part::Gap {
+                first: first - 1,
+                last,
+                mask,
+            };
+            i - 1
+        }
+        _ => return,
+    };
+    match parts.get(beside) {
+        Some(&Part::Gap { first, last, mask }) if narrow && first < last => {
+            parts[beside] = match to_the_right {
+                true => Part::Gap {
+                    first: first + 1,
+                    last,
+                    mask,
+                },
+                false => Part::Gap {
+                    first,
+                    last: last - 1,
+                    mask,
+                },
+            };
+        }
+        Some(_) if narrow => drop(parts.remove(beside)),
+        _ => (),
+    }
+}
+
+/// The offset of each field, as far as the tags can be read.
+fn offsets(bytes: &[u8]) -> Vec<usize> {
+    let mut offsets = Vec::new();
+    let mut offset = 0;
+    while let Some(tag) = bytes.get(offset) {
+        offsets.push(offset);
+        offset += if *tag == 1 { 15 } else { 19 };
+    }
+    offsets
+}
+
+/// Changes a few bytes.
+pub fn damage_bytes(random: &mut Random, bytes: &mut Vec<u8>) {
+    let length = bytes.len();
+    let offsets = offsets(bytes);
+    if offsets.is_empty() {
+        bytes.push(random.word() as u8);
+        return;
+    }
+    let place = random.below(length);
+    let field = random.pick(&offsets);
+    match random.below(12) {
+        0 | 1 => bytes[place] ^= 1 << random.below(8),
+        2 => bytes[place] = random.word() as u8,
+        3 => bytes.truncate(place),
+        4 => bytes.truncate(field + random.below(4)),
+        // Trailing bytes.
+        5 => {
+            let kind = random.below(3);
+            for _ in 0..random.from_to(1, 25) {
+                bytes.push(match kind {
+                    0 => 0,
+                    1 => random.from_to(1, 2) as u8,
+                    _ => random.word() as u8,
+                });
+            }
+        }
+        6 => bytes.insert(place, random.word() as u8),
+        7 => drop(bytes.remove(place)),
+        // Tag and length.
+        8 => bytes[field] = random.pick(&[0, 1, 2, 3, 255]),
+        9 => {
+            let place = (field + random.from_to(1, 2)).min(length - 1);
+            bytes[place] = random.pick(&[0, 1, 11, 12, 13, 15, 16, 17, 255]);
+        }
+        // Bytes of the body in another order.
+        10 => {
+            let start = (field + 3).min(length);
+            let end = (start + random.pick(&[4, 8, 12])).min(length);
+            match random.one_in(2) {
+                true => bytes[start..end].reverse(),
+                false => bytes[start..end].rotate_left(4.min(end - start)),
+            }
+        }
+        // A piece or the whole doubled.
+        _ => {
+            let end = random.pick(&[length, (field + 19).min(length)]);
+            let start = random.pick(&[0, field]);
+            let piece = bytes[start..end.max(start)].to_vec();
+            let at = random.pick(&[end, field, length]);
+            bytes.splice(at..at, piece);
+        }
+    }
+}

@@ -1,0 +1,269 @@
+//! One query asked of both sides, with all that they return and write.
+
+use crate::random::Random;
+use crate::Row;
+use quorum::{Counts, Outcome, Refusal};
+use std::fmt;
+
+/// Places before and after a lent buffer that must not change.
+const MARGIN: usize = 5;
+
+/// The runs and the threshold of a query.
+#[derive(Clone, Copy)]
+pub struct Question<'a> {
+    /// All runs, one after another.
+    pub numbers: &'a [u32],
+    /// Where each run ends.
+    pub ends: &'a [u32],
+    /// How many runs must hold an answer.
+    pub threshold: u32,
+}
+
+/// What a query is lent: probes, places for answers, certificate bytes.
+#[derive(Clone, Copy, Debug)]
+pub struct Limits {
+    /// The allowance of probes.
+    pub allowance: u32,
+    /// The length of the answer buffer.
+    pub answers: usize,
+    /// The length of the certificate buffer.
+    pub bytes: usize,
+}
+
+impl fmt::Debug for Question<'_> {
+    fn fmt(&self, f: &mut fmt::Formatter<'_>) -> fmt::Result {
+        let Question {
+            numbers,
+            ends,
+            threshold,
+        } = self;
+        write!(
+            f,
+            "threshold {threshold}, ends {:?}, numbers {:?}",
+            Row(ends),
+            Row(numbers)
+        )
+    }
+}
+
+/// The reference's outcome in the terms of `quorum`.
+pub fn outcome_of(outcome: reference::Outcome) -> Outcome {
+    let [number, place, answers, parts, bytes, probes] = row_of(outcome);
+    let counts = Counts {
+        answers: answers as usize,
+        parts: parts as usize,
+        bytes: bytes as usize,
+        probes,
+    };
+    match number {
+        0 => Outcome::Accepted(counts),
+        _ => Outcome::Refused(Refusal { number, place }, counts),
+    }
+}
+
+/// The reference's outcome as the row of the C interface.
+pub fn row_of(outcome: reference::Outcome) -> [u64; 6] {
+    match outcome {
+        reference::Outcome::Accepted {
+            answers,
+            parts,
+            bytes,
+            probes,
+        } => [0, 0, answers, parts, bytes, probes],
+        reference::Outcome::Refused {
+            number,
+            place,
+            answers,
+            bytes,
+            probes,
+        } => {
+            let parts = if number >= 5 { place } else { 0 };
+            [number.into(), place, answers, parts, bytes, probes]
+        }
+    }
+}
+
+/// A buffer with a margin on both sides, all filled with noise.
+#[derive(Default)]
+struct Lent<T> {
+    places: Vec<T>,
+}
+
+impl<T: Copy> Lent<T> {
+    fn fill(&mut self, length: usize, noise: impl FnMut(usize) -> T) {
+        self.places.clear();
+        self.places.extend((0..length + 2 * MARGIN).map(noise));
+    }
+
+    fn lend(&mut self) -> &mut [T] {
+        let end = self.places.len() - MARGIN;
+        &mut self.places[MARGIN..end]
+    }
+}
+
+/// The buffers of one side.
+#[derive(Default)]
+struct Buffers {
+    answers: Lent<u32>,
+    certificate: Lent<u8>,
+}
+
+impl Buffers {
+    fn fill(&mut self, limits: Limits, noise: u32) {
+        let word = |i: usize| (i as u32).wrapping_mul(0x9e37_79b1) ^ noise;
+        self.answers.fill(limits.answers, word);
+        self.certificate
+            .fill(limits.bytes, |i| (word(i) >> 24) as u8);
+    }
+}
+
+/// Asks both sides, compares, and counts what was seen.
+#[derive(Default)]
+pub struct Comparer {
+    found: Buffers,
+    expected: Buffers,
+    /// How many questions ended with each refusal; 0 stands for accepted.
+    pub seen: [u64; 8],
+    /// Compare the rows of the C interface and not the outcomes.
+    rows: bool,
+}
+
+impl Comparer {
+    /// Compares what [`quorum::query`] returns.
+    pub fn new() -> Self {
+        Comparer::default()
+    }
+
+    /// Compares the rows that the C interface writes.
+    pub fn of_rows() -> Self {
+        Comparer {
+            rows: true,
+            ..Comparer::default()
+        }
+    }
+
+    /// How many questions were asked.
+    pub fn asked(&self) -> u64 {
+        self.seen.iter().sum()
+    }
+
+    /// Asks both sides and compares what they return and the whole of both
+    /// buffers with their margins. Returns the outcome.
+    pub fn compare(&mut self, seed: u64, question: Question, limits: Limits) -> reference::Outcome {
+        let Question {
+            numbers,
+            ends,
+            threshold,
+        } = question;
+        let noise = Random(seed).word();
+        self.found.fill(limits, noise);
+        self.expected.fill(limits, noise);
+        let expected = reference::query(
+            numbers,
+            ends,
+            threshold,
+            limits.allowance,
+            self.expected.answers.lend(),
+            self.expected.certificate.lend(),
+        );
+        let answers = self.found.answers.lend();
+        let certificate = self.found.certificate.lend();
+        let allowance = limits.allowance;
+        let context = || format!("seed {seed}: {limits:?}, {question:?}");
+        if self.rows {
+            let row = quorum::ffi::query(numbers, ends, threshold, allowance, answers, certificate);
+            assert_eq!(row, row_of(expected), "{}", context());
+        } else {
+            let outcome = quorum::query(numbers, ends, threshold, allowance, answers, certificate);
+            assert_eq!(outcome, outcome_of(expected), "{}", context());
+        }
+        let place = difference(&self.found.answers, &self.expected.answers);
+        assert_eq!(place, None, "answers, {}", context());
+        let place = difference(&self.found.certificate, &self.expected.certificate);
+        assert_eq!(place, None, "certificate, {}", context());
+        self.seen[row_of(expected)[0] as usize] += 1;
+        expected
+    }
+
+    /// Asks with limits of every kind: exact, one short, one more, tiny, ample
+    /// and random ones. If the first checks refuse, asks once.
+    pub fn compare_limits(&mut self, seed: u64, random: &mut Random, question: Question) {
+        let Some(whole) = whole(question) else {
+            let limits = Limits {
+                allowance: random.pick(&[0, 1, u32::MAX]),
+                answers: random.below(4),
+                bytes: random.below(40),
+            };
+            self.compare(seed, question, limits);
+            return;
+        };
+        for limits in limits_near(random, whole) {
+            self.compare(seed, question, limits);
+        }
+    }
+}
+
+/// The first place at which two buffers differ, counted in the lent part.
+fn difference<T: Copy + PartialEq>(a: &Lent<T>, b: &Lent<T>) -> Option<isize> {
+    let place = (0..a.places.len()).find(|&i| a.places[i] != b.places[i])?;
+    Some(place as isize - MARGIN as isize)
+}
+
+/// Exactly what the whole walk needs; `None` if the first checks refuse.
+pub fn whole(question: Question) -> Option<Limits> {
+    let trace = reference::trace(question.numbers, question.ends, question.threshold).ok()?;
+    let is_answer = |part: &&reference::Part| matches!(part, reference::Part::Answer { .. });
+    let answers = trace.parts.iter().filter(is_answer).count();
+    Some(Limits {
+        allowance: trace.probes.iter().sum::<u64>() as u32,
+        answers,
+        bytes: 19 * trace.parts.len() - 4 * answers,
+    })
+}
+
+/// Limits of every kind for a walk that needs `whole`.
+fn limits_near(random: &mut Random, whole: Limits) -> Vec<Limits> {
+    let exact = whole.allowance;
+    let mut all = Vec::new();
+    for allowance in [
+        0,
+        1,
+        exact.saturating_sub(1),
+        exact,
+        exact + 1,
+        random.below(exact as usize + 1) as u32,
+    ] {
+        all.push(Limits { allowance, ..whole });
+    }
+    for answers in [
+        0,
+        whole.answers.saturating_sub(1),
+        whole.answers + 1,
+        random.below(whole.answers + 1),
+    ] {
+        all.push(Limits { answers, ..whole });
+    }
+    let tiny = random.pick(&[0, 1, 14, 15, 18, 19, 20, 33, 34, 38]);
+    for bytes in [
+        tiny,
+        whole.bytes.saturating_sub(1),
+        whole.bytes + random.from_to(1, 40),
+        random.below(whole.bytes + 1),
+    ] {
+        all.push(Limits { bytes, ..whole });
+    }
+    // Several that may run out.
+    for _ in 0..3 {
+        all.push(Limits {
+            allowance: random.below(exact as usize + 2) as u32,
+            answers: random.below(whole.answers + 2),
+            bytes: random.below(whole.bytes + 20),
+        });
+    }
+    all.push(Limits {
+        allowance: u32::MAX,
+        answers: whole.answers + random.below(9),
+        bytes: whole.bytes + random.below(30),
+    });
+    all
+}

@@ -1,0 +1,279 @@
+//! The checker: true certificates of every form and damaged ones.
+
+use comparison::broken::{any_threshold, break_rows};
+use comparison::certificates::{damage_bytes, Task};
+use comparison::question::Question;
+use comparison::random::{seeds, Random};
+use comparison::shapes::{any_runs, shaped_runs, Shape, SHAPES};
+use comparison::{lay_out, slices, M};
+use quorum::{Refusal, Verdict};
+use reference::{decode, encode, is_true, trace, Part};
+
+/// How many certificates were seen with each verdict; 0 stands for true.
+#[derive(Default)]
+struct Seen([u64; 12]);
+
+impl Seen {
+    fn all(&self) -> u64 {
+        self.0.iter().sum()
+    }
+
+    fn met(&self, numbers: &[usize], times: u64) {
+        let Seen(seen) = self;
+        println!("{} certificates, by refusal {seen:?}", self.all());
+        assert!(numbers.iter().all(|&i| seen[i] >= times), "{seen:?}");
+    }
+
+    /// Compares the verdicts and rows of both sides. Returns the refusal's
+    /// number, 0 for a true certificate.
+    fn compare(&mut self, seed: u64, question: Question, bytes: &[u8]) -> u64 {
+        let Question {
+            numbers,
+            ends,
+            threshold,
+        } = question;
+        let context = || format!("seed {seed}: certificate {bytes:?}, {question:?}");
+        let (verdict, row) = match reference::check(numbers, ends, threshold, bytes) {
+            reference::Verdict::Valid { answers, parts } => {
+                let valid = Verdict::Valid {
+                    answers: answers as usize,
+                    parts: parts as usize,
+                };
+                (valid, [0, 0, answers, parts])
+            }
+            reference::Verdict::Invalid { number, place } => {
+                let number = number.into();
+                let refusal = Refusal { number, place };
+                (Verdict::Invalid(refusal), [number, place, 0, 0])
+            }
+        };
+        let found = quorum::check(numbers, ends, threshold, bytes);
+        assert_eq!(found, verdict, "{}", context());
+        let found = quorum::ffi::check(numbers, ends, threshold, bytes);
+        assert_eq!(found, row, "{}", context());
+        self.0[row[0] as usize] += 1;
+        row[0]
+    }
+
+    /// The same, and compares with the definition of truth.
+    fn compare_with_truth(&mut self, seed: u64, task: Task, bytes: &[u8]) -> u64 {
+        let (numbers, ends) = lay_out(task.runs);
+        let question = Question {
+            numbers: &numbers,
+            ends: &ends,
+            threshold: task.threshold,
+        };
+        let number = self.compare(seed, question, bytes);
+        let truth = decode(bytes).is_some_and(|parts| is_true(task.runs, task.threshold, &parts));
+        assert_eq!(truth, number == 0, "seed {seed}: {question:?}");
+        number
+    }
+}
+
+fn walks_own(task: Task) -> Vec<Part> {
+    let (numbers, ends) = lay_out(task.runs);
+    trace(&numbers, &ends, task.threshold).unwrap().parts
+}
+
+/// For random runs: the walk's own certificate, other true ones, and each of
+/// them damaged.
+fn compare_random(group: u64, cases: u64, runs: [usize; 2], length: usize) -> Seen {
+    let mut seen = Seen::default();
+    for seed in seeds(group, cases) {
+        let mut random = Random(seed);
+        let k = random.from_to(runs[0], runs[1]);
+        let length = random.below(length + 1);
+        let runs = any_runs(&mut random, k, length);
+        let runs = slices(&runs);
+        let task = Task {
+            runs: &runs,
+            threshold: random.from_to(1, k) as u32,
+        };
+        let own = walks_own(task);
+        let mut rewritten = own.clone();
+        for _ in 0..random.from_to(1, 6) {
+            task.rewrite(&mut random, &mut rewritten);
+        }
+        let any = task.any_true(&mut random);
+        for parts in [own, rewritten, any] {
+            let bytes = encode(&parts);
+            assert_eq!(seen.compare_with_truth(seed, task, &bytes), 0);
+            for _ in 0..2 {
+                let mut parts = parts.clone();
+                for _ in 0..random.pick(&[1, 1, 2]) {
+                    task.damage_parts(&mut random, &mut parts);
+                }
+                let mut damaged = encode(&parts);
+                seen.compare_with_truth(seed, task, &damaged);
+                if random.one_in(3) {
+                    damage_bytes(&mut random, &mut damaged);
+                    seen.compare_with_truth(seed, task, &damaged);
+                }
+            }
+            let mut damaged = bytes;
+            damage_bytes(&mut random, &mut damaged);
+            seen.compare_with_truth(seed, task, &damaged);
+        }
+    }
+    seen
+}
+
+#[test]
+fn few_short_runs() {
+    let seen = compare_random(41, 20_000, [1, 5], 6);
+    assert!(seen.all() > 250_000);
+    seen.met(&[0, 8, 9, 10, 11], 5_000);
+}
+
+#[test]
+fn more_runs() {
+    let seen = compare_random(42, 6_000, [5, 20], 10);
+    assert!(seen.all() > 75_000);
+    seen.met(&[0, 8, 9, 10, 11], 1_000);
+}
+
+#[test]
+fn most_runs() {
+    let seen = compare_random(43, 500, [60, 64], 12);
+    seen.met(&[0, 8, 9, 10, 11], 100);
+}
+
+#[test]
+fn long_runs() {
+    let seen = compare_random(44, 60, [1, 4], 300);
+    seen.met(&[0, 8, 9, 10, 11], 10);
+}
+
+/// The true certificate of three runs with each byte set to each value.
+#[test]
+fn every_byte() {
+    let runs: [&[u32]; 3] = [&[2, 5, 9], &[5, 7, 9, 12], &[1, 9]];
+    let task = Task {
+        runs: &runs,
+        threshold: 2,
+    };
+    let whole = encode(&walks_own(task));
+    let mut seen = Seen::default();
+    for place in 0..whole.len() {
+        for value in 0..=255 {
+            let mut bytes = whole.clone();
+            bytes[place] = value;
+            seen.compare_with_truth(0, task, &bytes);
+        }
+        seen.compare_with_truth(0, task, &whole[..place]);
+        seen.compare_with_truth(0, task, &[&whole[..], &whole[..=place]].concat());
+        seen.compare_with_truth(0, task, &[&whole[..place], &whole[place + 1..]].concat());
+    }
+    seen.met(&[0, 8, 9, 10, 11], 50);
+}
+
+/// The first checks come before the certificate.
+#[test]
+fn first_checks() {
+    let mut seen = Seen::default();
+    for seed in seeds(45, 40_000) {
+        let mut random = Random(seed);
+        let k = random.pick(&[0, 1, 2, 3, 4, 8, 63, 64, 65, 66]);
+        let length = random.below(8);
+        let (mut numbers, mut ends) = lay_out(&any_runs(&mut random, k, length));
+        let threshold = any_threshold(&mut random, ends.len());
+        let own = trace(&numbers, &ends, threshold).map_or(Vec::new(), |walk| walk.parts);
+        for _ in 0..random.from_to(0, 3) {
+            break_rows(&mut random, &mut numbers, &mut ends);
+        }
+        let question = Question {
+            numbers: &numbers,
+            ends: &ends,
+            threshold,
+        };
+        seen.compare(seed, question, &encode(&own));
+    }
+    seen.met(&[0, 1, 2, 3, 4, 9, 10, 11], 50);
+}
+
+/// Certificates that a checker going back to the front of a run for each part
+/// would take minutes over.
+#[test]
+fn most_numbers() {
+    let mut seen = Seen::default();
+    for (seed, shape) in seeds(46, 6).zip(SHAPES) {
+        let mut random = Random(seed);
+        let k = random.pick(&[2, 7, 64]);
+        // The numbers of a skewed case are mostly those of one run.
+        let length = match shape {
+            Shape::Skewed => 1_000_000,
+            _ => 1_000_000 / k,
+        };
+        let mut runs = shaped_runs(&mut random, shape, k, length);
+        let mut room = 1_048_576;
+        for run in &mut runs {
+            run.truncate(room);
+            room -= run.len();
+        }
+        let (numbers, ends) = lay_out(&runs);
+        for threshold in [1, k as u32] {
+            let question = Question {
+                numbers: &numbers,
+                ends: &ends,
+                threshold,
+            };
+            let parts = trace(&numbers, &ends, threshold).unwrap().parts;
+            let mut bytes = encode(&parts);
+            assert_eq!(seen.compare(seed, question, &bytes), 0);
+            let middle = bytes.len() / 2;
+            bytes[middle] ^= 1;
+            seen.compare(seed, question, &bytes);
+        }
+    }
+    assert_eq!(seen.0[0], 12);
+}
+
+/// Every mask of three runs, in a gap and in an answer.
+#[test]
+fn every_mask() {
+    let mut seen = Seen::default();
+    let runs: [&[u32]; 3] = [&[7], &[7, 8], &[8]];
+    for threshold in 1..=3 {
+        let task = Task {
+            runs: &runs,
+            threshold,
+        };
+        for mask in (0..16).chain([1 << 63, u64::MAX, 7 | 1 << 62]) {
+            let all = 7;
+            for value in [6, 7, 8, 9] {
+                let parts = [
+                    Part::Gap {
+                        first: 0,
+                        last: value - 1,
+                        mask: all,
+                    },
+                    Part::Answer { value, mask },
+                    Part::Gap {
+                        first: value + 1,
+                        last: M,
+                        mask,
+                    },
+                ];
+                for kept in 1..=3 {
+                    seen.compare_with_truth(0, task, &encode(&parts[..kept]));
+                }
+                let gap = Part::Gap {
+                    first: 0,
+                    last: value,
+                    mask,
+                };
+                seen.compare_with_truth(0, task, &encode(&[gap, parts[2]]));
+            }
+        }
+    }
+    seen.met(&[9, 10, 11], 10);
+}
+
+#[test]
+fn instances() {
+    let refusal = |number, place| Verdict::Invalid(Refusal { number, place });
+    assert_eq!(quorum::check(&[7], &[1], 1, &[]), refusal(9, 0));
+    assert_eq!(quorum::check(&[3, 3], &[2], 1, &[]), refusal(4, 1));
+    assert_eq!(quorum::check(&[7; 65], &[0; 65], 1, &[]), refusal(1, 65));
+    assert_eq!(quorum::check(&[7], &[1], 2, &[]), refusal(2, 2));
+}

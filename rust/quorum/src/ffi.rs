@@ -1,0 +1,101 @@
+//! The C interface of `include/quorum.h`, each function with its results in a
+//! row as the library writes them. All unsafe code is here.
+//!
+//! The library reads and writes only the memory that it is lent, and returns
+//! for every input. A row starts as `u64::MAX`, which is no result.
+
+use std::ops::Range;
+
+extern "C" {
+    fn quorum_query(
+        numbers: *const u32,
+        numbers_len: usize,
+        ends: *const u32,
+        ends_len: usize,
+        threshold: u32,
+        allowance: u32,
+        answers: *mut u32,
+        answers_len: usize,
+        certificate: *mut u8,
+        certificate_len: usize,
+        result: *mut [u64; 6],
+    );
+    fn quorum_check(
+        numbers: *const u32,
+        numbers_len: usize,
+        ends: *const u32,
+        ends_len: usize,
+        threshold: u32,
+        certificate: *const u8,
+        certificate_len: usize,
+        result: *mut [u64; 4],
+    );
+    fn quorum_range(list: *const u32, list_len: usize, first: u32, last: u32, part: *mut [u64; 2]);
+    fn quorum_probe_bound(ends: *const u32, ends_len: usize, parts: u32, result: *mut [u64; 3]);
+}
+
+/// Returns refusal, place, answers, parts, bytes and probes.
+pub fn query(
+    numbers: &[u32],
+    ends: &[u32],
+    threshold: u32,
+    allowance: u32,
+    answers: &mut [u32],
+    certificate: &mut [u8],
+) -> [u64; 6] {
+    let mut result = [u64::MAX; 6];
+    // SAFETY: each pointer and length are those of one slice, and the slices
+    // written to are borrowed by this call alone.
+    unsafe {
+        quorum_query(
+            numbers.as_ptr(),
+            numbers.len(),
+            ends.as_ptr(),
+            ends.len(),
+            threshold,
+            allowance,
+            answers.as_mut_ptr(),
+            answers.len(),
+            certificate.as_mut_ptr(),
+            certificate.len(),
+            &mut result,
+        );
+    }
+    result
+}
+
+/// Returns refusal, place, answers and parts.
+pub fn check(numbers: &[u32], ends: &[u32], threshold: u32, certificate: &[u8]) -> [u64; 4] {
+    let mut result = [u64::MAX; 4];
+    // SAFETY: each pointer and length are those of one slice; only `result`
+    // is written to.
+    unsafe {
+        quorum_check(
+            numbers.as_ptr(),
+            numbers.len(),
+            ends.as_ptr(),
+            ends.len(),
+            threshold,
+            certificate.as_ptr(),
+            certificate.len(),
+            &mut result,
+        );
+    }
+    result
+}
+
+/// Returns the places of the list that the part has.
+pub fn range(list: &[u32], first: u32, last: u32) -> Range<u64> {
+    let mut part = [u64::MAX; 2];
+    // SAFETY: as in `check`, with `part` for `result`.
+    unsafe { quorum_range(list.as_ptr(), list.len(), first, last, &mut part) };
+    part[0]..part[1]
+}
+
+/// Returns refusal, place and bound.
+pub fn probe_bound(ends: &[u32], parts: u32) -> [u64; 3] {
+    let mut result = [u64::MAX; 3];
+    // SAFETY: as in `check`.
+    unsafe { quorum_probe_bound(ends.as_ptr(), ends.len(), parts, &mut result) };
+    result
+}
