@@ -12,7 +12,8 @@ use mathlib.Core.Path.{_≡_, refl, _∙_}
 use native.Mathlib.Numerals.{add-one}
 use native.Mathlib.Omega.{arith}
 use Rattle.bound.specs.declared.Bound.the-variants.{Sum, Refused}
-use Rattle.bound.specs.Bound.{boundOf, sumFrom, endChecks, probeBound}
+use Rattle.model.specs.Compared.{boundOf}
+use Rattle.bound.specs.Bound.{sumFrom, endChecks, probeBound}
 use Rattle.model.specs.Refusals.{_then_, refuseIf, refuseAt, fallsFrom, lastEnd}
 
 -- The state at end i: `before` is the end before it and `sum` the sum over the runs passed.

@@ -6,10 +6,9 @@ use mathlib.Core.Logic.{⊎-elim}
 use mathlib.Core.Path.{_≡_}
 use native.Mathlib.Nat.{mul-le-mul-left}
 use native.Mathlib.Omega.{arith}
-use Rattle.bound.specs.Bound.{boundOf}
+use Rattle.model.specs.Compared.{boundOf, digits}
 use Rattle.model.proofs.Digits.{digits-above, digits-least}
 use Rattle.model.proofs.Tests.{lt-or-le}
-use Rattle.model.specs.Compared.{digits}
 
 pub digits-leading : (w n : ℕ) → n < 2 ^ w → w - leadingZeros w n ≡ digits n
 digits-leading w n h =

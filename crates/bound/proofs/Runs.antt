@@ -9,32 +9,13 @@ use mathlib.Core.Option.{none, some}
 use mathlib.Core.Path.{_≡_, refl, ap}
 use native.Mathlib.Omega.{arith}
 use Rattle.bound.specs.declared.Bound.the-variants.{Sum}
-use Rattle.bound.specs.Bound.{boundOf, sumFrom, endChecks, probeBound}
+use Rattle.model.specs.Compared.{boundOf, boundIn, bound}
+use Rattle.bound.specs.Bound.{sumFrom, endChecks, probeBound}
 use Rattle.bound.proofs.Checks.{number-passed}
-use Rattle.model.proofs.FirstChecks.{first-passed}
+use Rattle.model.proofs.FirstChecks.{first-passed, not-fallen, end-last}
 use Rattle.model.proofs.Tests.{lt-or-le}
-use Rattle.model.specs.Compared.{boundIn, bound}
 use Rattle.model.specs.Refusals.{passed, _then_, refuseIf, refuseAt, fallsFrom, lastEnd, firstChecks}
 use Rattle.model.specs.Runs.{total, runsFrom, runs}
-
--- ends that do not fall: the first is not below the one before, and the others do not fall
-not-fallen : (b i e : ℕ) (ends : List ℕ) → fallsFrom b i (e ∷ ends) ≡ none → (b ≤ e) × (fallsFrom e (suc i) ends ≡ none)
-unfolding fallsFrom
-not-fallen b i e ends h =
-    ⊎-elim
-    (λ (q : e < b).
-    let z : some i ≡ none = rw (lt-ltb e b q, fallsFrom) at h in
-    absurd (let w : _≡_ {A = ℕ} 0 1 = cc in omega arith))
-    (λ (q : b ≤ e). (q, rw (le-ltb e b q, fallsFrom) at h))
-    (lt-or-le e b)
-
-last-above : (b i : ℕ) (ends : List ℕ) → fallsFrom b i ends ≡ none → b ≤ lastEnd b ends
-unfolding lastEnd
-last-above b i [] h = omega arith
-last-above b i (e ∷ ends) h =
-    let n = not-fallen b i e ends h in
-    let l = last-above e (suc i) ends (n .1) in
-    omega (arith, n .0)
 
 sum-from : (d i j a : ℕ) (numbers ends : List ℕ) → fallsFrom a i ends ≡ none → lastEnd a ends ≤ length numbers
     → sumFrom d a ends ≡ bound d (runsFrom j a numbers ends)
@@ -43,7 +24,7 @@ sum-from d i j a numbers [] h l = refl
 sum-from d i j a numbers (e ∷ ends) h l =
     let n = not-fallen a i e ends h in
     let s = sum-from d (suc i) (suc j) e numbers ends (n .1) l in
-    let m = last-above e (suc i) ends (n .1) in
+    let m = end-last e (suc i) ends (n .1) in
     let k : length (take (e - a) (drop a numbers)) ≡ e - a = simp (length-take, length-drop) (omega (arith, n .0)) in
     rw (k, s)
 

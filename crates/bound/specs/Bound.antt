@@ -1,17 +1,13 @@
 -- The bound on probes, from the ends of the runs alone, and its refusals. Definitions only.
-use Prim.Native.Nat.{ℕ, _+_, _-_, _*_}
+use Prim.Native.Nat.{ℕ, _+_, _-_}
 use mathlib.Core.Bool.{_||_}
 use mathlib.Core.List.{List, [], _∷_}
 use lib.Dec.{ltb, eqb}
 use lib.ListN.{length}
 use Rattle.bound.specs.declared.Bound.{Bound}
 use Rattle.bound.specs.declared.Bound.the-variants.{Sum, Refused}
-use Rattle.model.specs.Compared.{digits}
+use Rattle.model.specs.Compared.{boundOf}
 use Rattle.model.specs.Refusals.{Check, passed, refusal, _then_, refuseIf, refuseAt, fallsFrom, lastEnd}
-
--- 2 × d × b for one run of n numbers, b being the binary digits of n
-unfoldable pub boundOf : ℕ → ℕ → ℕ
-boundOf d n = 2 * d * digits n
 
 -- the sum over the runs that have these ends, the first of them starting at a
 unfoldable pub sumFrom : ℕ → ℕ → List ℕ → ℕ

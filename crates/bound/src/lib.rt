@@ -1,7 +1,7 @@
 // Binary digits, and the bound on a walk's probes.
 ghost use mathlib.Core.Path.{_≡_};
-ghost use Rattle.model.specs.Compared.{digits};
-ghost use Rattle.bound.specs.Bound.{boundOf, probeBound};
+ghost use Rattle.model.specs.Compared.{digits, boundOf};
+ghost use Rattle.bound.specs.Bound.{probeBound};
 
 const MOST_RUNS: usize = 64;
 

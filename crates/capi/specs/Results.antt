@@ -1,13 +1,14 @@
 -- The rows of numbers in which the C boundary returns its results. Definitions only.
-use Prim.Native.Nat.{ℕ, _-_, _≤_}
+use Prim.Native.Nat.{ℕ, _≤_}
 use mathlib.Core.Bool.{true, false}
 use mathlib.Core.List.{List, [], _∷_}
 use mathlib.Core.Path.{_≡_}
 use lib.Dec.{ltb}
-use lib.ListN.{length, getD, take, drop}
+use lib.ListN.{length, getD}
 use Rattle.bound.specs.declared.Bound.{Bound}
 use Rattle.bound.specs.declared.Bound.the-variants as bound
 use Rattle.model.specs.Range.{between}
+use Rattle.model.specs.Runs.{slice}
 use Rattle.model.specs.Refusals.{Outcome, accepted, refused, Verdict, valid, invalid}
 
 -- the whole parts written: none where a first check refuses; the place of a walk refusal is their number
@@ -34,4 +35,4 @@ pub record PartRow (first last : ℕ) (list row : List ℕ) : Type 0 where
   pub size : length row ≡ 2
   pub ordered : getD row 0 0 ≤ getD row 1 0
   pub inside : getD row 1 0 ≤ length list
-  pub part : take (getD row 1 0 - getD row 0 0) (drop (getD row 0 0) list) ≡ between first last list
+  pub part : slice list (getD row 0 0) (getD row 1 0) ≡ between first last list

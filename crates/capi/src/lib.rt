@@ -4,7 +4,7 @@ ghost use Rattle.model.specs.Refusals.{query, check};
 ghost use Rattle.query.specs.Outcomes.{outcomeIs};
 ghost use Rattle.bound.specs.Bound.{probeBound};
 ghost use Rattle.capi.specs.Results.{outcomeRow, writtenOf, verdictRow, boundRow, PartRow};
-ghost use Rattle.checker.specs.Cursors.{verdictIs};
+ghost use Rattle.checker.specs.Verdicts.{verdictIs};
 use bound::Bound;
 use checker::Verdict;
 use query::Outcome;

@@ -8,7 +8,7 @@ use Rattle.model.proofs.FirstChecks.{first-passed}
 use Rattle.model.specs.Demands.{Fits, Accepts}
 use Rattle.model.specs.Refusals.{passed, refusal, firstChecks, Verdict, invalid, checkFrom, check}
 use Rattle.model.specs.Runs.{firstBin, runs}
-use Rattle.checker.specs.Cursors.{Accepted}
+use Rattle.checker.specs.Verdicts.{Accepted}
 
 pub few-runs : (numbers ends : List ℕ) (t : ℕ) → firstChecks numbers ends t ≡ passed → length ends ≤ 64
 few-runs numbers ends t e = first-passed numbers ends t e .few-runs

@@ -13,6 +13,7 @@ use Rattle.fields.specs.Fields.{partOf, readingOf, EndsFrom}
 use Rattle.fields.specs.declared.Field as field
 use Rattle.fields.specs.declared.Field.the-variants.{Read, Unreadable}
 use Rattle.fields.specs.declared.Part as code
+use Rattle.model.proofs.Checking.{size-pos, check-read}
 use Rattle.model.specs.Certificate.{Part, answer, gap, lastOf, sizeOf, unreadable, read, readField}
 use Rattle.model.specs.Refusals.{passed, refusal, Verdict, valid, invalid, checkPart, counted, atEnd, checkFrom}
 use Rattle.model.specs.Runs.{Run, pastBin, runs}
@@ -30,20 +31,10 @@ from-refused : (fuel : ℕ) (rs : List Run) (t b at x n place : ℕ) (bytes rest
 unfolding checkFrom
 from-refused fuel rs t b at x n place bytes rest p e h = rw (e, checkFrom, h)
 
-from-passed : (fuel : ℕ) (rs : List Run) (t b at x : ℕ) (bytes rest : List ℕ) (p : Part) → readField (x ∷ bytes) ≡ read p rest → checkPart rs t b at p ≡ passed
-    → checkFrom (suc fuel) rs t b at (x ∷ bytes) ≡ counted p (checkFrom fuel rs t (suc (lastOf p)) (at + sizeOf p) rest)
-unfolding checkFrom
-from-passed fuel rs t b at x bytes rest p e h = rw (e, checkFrom, h)
-
 from-end : (fuel : ℕ) (rs : List Run) (t b at : ℕ) → checkFrom fuel rs t b at [] ≡ atEnd b at
 unfolding checkFrom
 from-end zero rs t b at = refl
 from-end (suc fuel) rs t b at = refl
-
-pub size-pos : (p : Part) → 0 < sizeOf p
-unfolding sizeOf
-size-pos (answer v m) = omega arith
-size-pos (gap f l m) = omega arith
 
 pub answers-few : (p : Part) → answersIn p ≤ 1
 unfolding answersIn
@@ -155,7 +146,7 @@ module _ (numbers ends : List ℕ) (t : ℕ) (certificate positions : List ℕ) 
         same =
             step l
             ∙ (ap (plus answers parts)
-            (from-passed (length certificate - (parts + 1)) (runs numbers ends) t bin at (getD certificate at 0) (drop (suc at) certificate)
+            (check-read (length certificate - (parts + 1)) (runs numbers ends) t bin at (getD certificate at 0) (drop (suc at) certificate)
             (drop next certificate) (partOf q) (readable l x q next e r) (c .refused-by at ∙ ap (λ z. numbered z at) n))
             ∙ (plus-counted answers parts (partOf q) _
             ∙ (λ i.

@@ -13,9 +13,9 @@ use native.Mathlib.Omega.{arith}
 use Rattle.model.proofs.From.{Rise, from, from-pass, from-stop, from-nil, head-cons, head-nil}
 use Rattle.model.proofs.Slices.{part-cons, part-empty}
 use Rattle.model.proofs.Tests.{eq-or-ne}
-use Rattle.model.specs.Runs.{pastBin}
+use Rattle.model.specs.Runs.{pastBin, slice}
 use Rattle.model.specs.Walk.{headOf}
-use Rattle.checker.specs.Cursors.{from-place, binsOf, headIn, MovesOn, Cursors, clash}
+use Rattle.checker.specs.Cursors.{binsOf, headIn, MovesOn, Cursors, clash}
 
 pub bin-fits : (x : ℕ) → x < 4294967296 → x < pastBin
 unfolding pastBin
@@ -32,7 +32,7 @@ pub record Here (numbers : List ℕ) (place end first i : ℕ) : Type 0 where
   pub onward : place ≤ i
   pub order : i ≤ end
   pub inside : end ≤ length numbers
-  pub same : (v : ℕ) → first ≤ v → from v (from-place numbers place end) ≡ from v (from-place numbers i end)
+  pub same : (v : ℕ) → first ≤ v → from v (slice numbers place end) ≡ from v (slice numbers i end)
 
 pub here-start : (numbers : List ℕ) (place end first : ℕ) → place ≤ end → end ≤ length numbers → Here numbers place end first place
 here-start numbers place end first h l = record { onward = omega arith; order = h; inside = l; same = λ v q. refl }
@@ -48,8 +48,8 @@ here-on numbers place end first i h l q =
       same = λ v w.
           h .same v w
           ∙ (ap (from v) (part-cons i end numbers l (h .inside))
-          ∙ (from-pass v (getD numbers i 0) (from-place numbers (suc i) end) (omega arith)
-          ∙ ap (λ x. from v (from-place numbers x end)) (sym (add-one i))));
+          ∙ (from-pass v (getD numbers i 0) (slice numbers (suc i) end) (omega arith)
+          ∙ ap (λ x. from v (slice numbers x end)) (sym (add-one i))));
     }
 
 pub here-end : (numbers : List ℕ) (place end first i : ℕ) → Here numbers place end first i → (i < end → first ≤ getD numbers i 0)
@@ -89,14 +89,14 @@ module _ (numbers ends positions : List ℕ) (i f p e q : ℕ) (l : i < length e
   inside : e ≤ length numbers
   inside = stands numbers ends positions i f p e l c ep ee .1
 
-  same-here : (v : ℕ) → f ≤ v → from v (binsOf numbers ends i) ≡ from v (from-place numbers q e)
+  same-here : (v : ℕ) → f ≤ v → from v (binsOf numbers ends i) ≡ from v (slice numbers q e)
   same-here v h =
       c .same i l v h
-      ∙ ((λ j. from v (from-place numbers (sym ep j) (sym ee j))) ∙ m .same v h)
+      ∙ ((λ j. from v (slice numbers (sym ep j) (sym ee j))) ∙ m .same v h)
 
   pub head-past : q ≡ e → headIn numbers ends i f ≡ pastBin
   head-past h =
-      ap headOf (same-here f (omega arith) ∙ ((λ j. from f (from-place numbers (h j) e)) ∙ (ap (from f) (part-empty e numbers) ∙ from-nil f))) ∙ head-nil
+      ap headOf (same-here f (omega arith) ∙ ((λ j. from f (slice numbers (h j) e)) ∙ (ap (from f) (part-empty e numbers) ∙ from-nil f))) ∙ head-nil
 
   pub head-is : q ≢ e → headIn numbers ends i f ≡ getD numbers q 0
   head-is n =
@@ -104,8 +104,8 @@ module _ (numbers ends positions : List ℕ) (i f p e q : ℕ) (l : i < length e
       let h : q < e = omega arith in
       ap headOf
       (same-here f (omega arith)
-      ∙ (ap (from f) (part-cons q e numbers h inside) ∙ from-stop f (getD numbers q 0) (from-place numbers (suc q) e) (m .stops h)))
-      ∙ head-cons (getD numbers q 0) (from-place numbers (suc q) e)
+      ∙ (ap (from f) (part-cons q e numbers h inside) ∙ from-stop f (getD numbers q 0) (slice numbers (suc q) e) (m .stops h)))
+      ∙ head-cons (getD numbers q 0) (slice numbers (suc q) e)
 
   pub cursors-on : (positions′ : List ℕ) → positions′ ≡ set positions i q → Cursors numbers ends positions′ f
   cursors-on positions′ r =
@@ -128,9 +128,9 @@ module _ (numbers ends positions : List ℕ) (i f p e q : ℕ) (l : i < length e
         same = λ j h v k.
             ⊎-elim
             (λ (w : j ≡ i).
-            subst (λ x. from v (binsOf numbers ends x) ≡ from v (from-place numbers (getD positions′ x 0) (getD ends x 0))) (sym w)
-            (same-here v k ∙ (λ s. from v (from-place numbers (sym a s) (ee s)))))
-            (λ (w : j ≢ i). c .same j h v k ∙ (λ s. from v (from-place numbers (sym (other j w positions′ r) s) (getD ends j 0))))
+            subst (λ x. from v (binsOf numbers ends x) ≡ from v (slice numbers (getD positions′ x 0) (getD ends x 0))) (sym w)
+            (same-here v k ∙ (λ s. from v (slice numbers (sym a s) (ee s)))))
+            (λ (w : j ≢ i). c .same j h v k ∙ (λ s. from v (slice numbers (sym (other j w positions′ r) s) (getD ends j 0))))
             (eq-or-ne j i);
       }
     where

@@ -10,6 +10,7 @@ use mathlib.Core.Logic.{⊎-elim, _≢_}
 use mathlib.Core.Path.{_≡_, refl, sym, ap, _∙_, subst}
 use native.Mathlib.Numerals.{add-one}
 use native.Mathlib.Omega.{arith}
+use Rattle.model.proofs.Checking.{within-none, within-some}
 use Rattle.model.proofs.From.{Rise, from, rise-from, head-mem, from-mem, mem-from, head-below-mem, head-least, holds-mem, mem-holds}
 use Rattle.model.proofs.Tests.{both, lt-or-le, eq-or-ne, true-false}
 use Rattle.model.specs.Certificate.{Part}
@@ -18,40 +19,6 @@ use Rattle.model.specs.Refusals.{contradicts, anyContradicts}
 use Rattle.model.specs.Runs.{Run, pastBin, runs, runsFrom, holds, names}
 use Rattle.model.specs.Walk.{headOf}
 use Rattle.checker.specs.Cursors.{startOf, runAt, Cursors, clash, claim}
-
--- ---- numbers from the first to the last
-
-within-none : (f l : ℕ) (s : List ℕ) → ((x : ℕ) → List·Memᴰ x s → f ≤ x → x ≤ l → ⊥) → length (within f l s) ≡ 0
-unfolding within
-within-none f l [] h = refl
-within-none f l (y ∷ s) h =
-    let i = within-none f l s (λ x m. h x (List·Memᴰ·tail m)) in
-    ⊎-elim
-    (λ (q : y < f). rw (lt-leb f y q, within) i)
-    (λ (q : f ≤ y).
-    ⊎-elim
-    (λ (o : l < y). rw (le-leb f y q, lt-leb y l o, within) i)
-    (λ (o : y ≤ l). absurd (h y (List·Memᴰ·head refl) q o))
-    (lt-or-le l y))
-    (lt-or-le y f)
-
-within-some : (f l : ℕ) (s : List ℕ) (x : ℕ) → List·Memᴰ x s → f ≤ x → x ≤ l → 0 < length (within f l s)
-unfolding within
-within-some f l [] x m i j = absurd (List·Memᴰ·not-nil m)
-within-some f l (y ∷ s) x m i j =
-    ⊎-elim
-    (λ (q : (leb f y && leb y l) ≡ true). rw (q, within) (omega arith))
-    (λ (q : (leb f y && leb y l) ≡ false).
-    rw (q, within)
-    (⊎-elim
-    (λ (e : x ≡ y).
-    let c : f ≤ y = omega arith in
-    let d : y ≤ l = omega arith in
-    let w : (leb f y && leb y l) ≡ true = rw (le-leb f y c, le-leb y l d) in
-    true-false w q)
-    (λ n. within-some f l s x n i j)
-    (List·Memᴰ·cases-cons m)))
-    (both (leb f y && leb y l))
 
 -- ---- the first number from f on decides
 

@@ -13,8 +13,8 @@ use Rattle.model.proofs.From.{Rise, from}
 use Rattle.model.proofs.Tests.{eq-or-ne}
 use Rattle.model.specs.Demands.{Fits}
 use Rattle.model.specs.Refusals.{passed, firstChecks}
-use Rattle.model.specs.Runs.{Run, pastBin, runs, runsFrom}
-use Rattle.checker.specs.Cursors.{from-place, startOf, binsOf, Cursors, Begins}
+use Rattle.model.specs.Runs.{Run, pastBin, runs, runsFrom, slice}
+use Rattle.checker.specs.Cursors.{startOf, binsOf, Cursors, Begins}
 
 -- the cursors of the runs before i are placed
 pub record Placed (ends positions : List ℕ) (start i : ℕ) : Type 0 where
@@ -49,7 +49,7 @@ placed-all numbers ends positions₀ positions start i b l p =
       risen = b .risen;
       lengths = p .lengths;
       before = λ j h. let e = p .each j (omega arith) in let s = b .starts j h in omega arith;
-      same = λ j h v q. λ s. from v (from-place numbers (sym (p .each j (omega arith)) s) (getD ends j 0));
+      same = λ j h v q. λ s. from v (slice numbers (sym (p .each j (omega arith)) s) (getD ends j 0));
     }
 
 -- ---- what the first checks give
@@ -61,7 +61,7 @@ ordered numbers ends o (suc i) h =
     (next-ordered numbers ends (startOf ends i) i (omega arith) (ordered numbers ends o i (omega arith)))
 
 member : (i a : ℕ) (numbers ends : List ℕ) (j : ℕ) → j < length ends
-    → (n : ℕ) × List·Memᴰ (record { label = n; bins = from-place numbers (getD (a ∷ ends) j 0) (getD ends j 0) }) (runsFrom i a numbers ends)
+    → (n : ℕ) × List·Memᴰ (record { label = n; bins = slice numbers (getD (a ∷ ends) j 0) (getD ends j 0) }) (runsFrom i a numbers ends)
 unfolding runsFrom
 member i a numbers [] j h = absurd (omega arith)
 member i a numbers (e ∷ ends) zero h = (i, List·Memᴰ·head refl)

@@ -7,23 +7,16 @@ use lib.Dec.{leb, eqb}
 use lib.ListN.{length, getD, take, drop}
 use Rattle.model.proofs.From.{Rise, from}
 use Rattle.model.specs.Certificate.{Part, answer, gap, lastOf}
-use Rattle.model.specs.Demands.{Accepts}
 use Rattle.model.specs.Refusals as model
-use Rattle.model.specs.Runs.{Run, runs}
+use Rattle.model.specs.Runs.{Run, slice, runs}
 use Rattle.model.specs.Walk.{headOf}
-use Rattle.checker.specs.declared.Verdict.{Verdict}
-use Rattle.checker.specs.declared.Verdict.the-variants.{Valid, Invalid}
-
--- the numbers of a run from a place on
-abbrev pub from-place : List ℕ → ℕ → ℕ → List ℕ
-from-place numbers place end = take (end - place) (drop place numbers)
 
 -- where run i starts, and its numbers
 abbrev pub startOf : List ℕ → ℕ → ℕ
 startOf ends i = getD (0 ∷ ends) i 0
 
 abbrev pub binsOf : List ℕ → List ℕ → ℕ → List ℕ
-binsOf numbers ends i = from-place numbers (startOf ends i) (getD ends i 0)
+binsOf numbers ends i = slice numbers (startOf ends i) (getD ends i 0)
 
 abbrev pub runAt : List ℕ → List ℕ → ℕ → Run
 runAt numbers ends i = record { label = i; bins = binsOf numbers ends i }
@@ -36,7 +29,7 @@ headIn numbers ends i v = headOf (from v (binsOf numbers ends i))
 pub record MovesOn (numbers : List ℕ) (place end first q : ℕ) : Type 0 where
   pub onward : place ≤ q
   pub order : q ≤ end
-  pub same : (v : ℕ) → first ≤ v → from v (from-place numbers place end) ≡ from v (from-place numbers q end)
+  pub same : (v : ℕ) → first ≤ v → from v (slice numbers place end) ≡ from v (slice numbers q end)
   pub stops : q < end → first ≤ getD numbers q 0
 
 -- Runs that rise, one after another, and for each a cursor in it: from its cursor on a run has the same numbers from any bin not below b on.
@@ -47,7 +40,7 @@ pub record Cursors (numbers ends positions : List ℕ) (b : ℕ) : Type 0 where
   pub lengths : length positions ≡ length ends
   pub before : (i : ℕ) → i < length ends → getD positions i 0 ≤ getD ends i 0
   pub same : (i : ℕ) → i < length ends → (v : ℕ) → b ≤ v
-      → from v (binsOf numbers ends i) ≡ from v (from-place numbers (getD positions i 0) (getD ends i 0))
+      → from v (binsOf numbers ends i) ≡ from v (slice numbers (getD positions i 0) (getD ends i 0))
 
 -- A run whose first number from f on is h contradicts the answer f, or the gap from f to l.
 unfoldable pub clash : Bool → ℕ → ℕ → ℕ → Bool
@@ -84,10 +77,6 @@ unfoldable pub answersIn : Part → ℕ
 answersIn (answer v m) = 1
 answersIn (gap f l m) = 0
 
-abbrev pub verdictIs : Verdict → model.Verdict
-verdictIs (Valid answers parts) = model.valid answers parts
-verdictIs (Invalid number place) = model.invalid number place
-
 -- rising runs, one after another, and a place for each one's cursor
 pub record Begins (numbers ends positions : List ℕ) : Type 0 where
   pub few : length ends ≤ 64
@@ -95,7 +84,3 @@ pub record Begins (numbers ends positions : List ℕ) : Type 0 where
   pub inside : (i : ℕ) → i < length ends → getD ends i 0 ≤ length numbers
   pub risen : (i : ℕ) → i < length ends → Rise 0 (binsOf numbers ends i)
   pub lengths : length positions ≡ length ends
-
--- demand 2 for the checker, for lists and a threshold that pass the first checks
-pub record Accepted (numbers ends : List ℕ) (t : ℕ) (certificate : List ℕ) (v : model.Verdict) : Type 0 where
-  pub for-every : model.firstChecks numbers ends t ≡ model.passed → Accepts (runs numbers ends) t certificate v

@@ -13,7 +13,8 @@ use native.Mathlib.Numerals.{add-one}
 use native.Mathlib.Omega.{arith}
 use Rattle.model.specs.Refusals.{fallsFrom, lastEnd, unrisenIn}
 use Rattle.model.specs.Runs.{Run, runsFrom, unrisenAfter, unrisen}
-use Rattle.model.proofs.Slices.{part-cons, part-empty, part-length}
+use Rattle.model.proofs.FirstChecks.{not-fallen, end-last}
+use Rattle.model.proofs.Slices.{part-length}
 use Rattle.model.proofs.Tests.{lt-or-le}
 
 -- ---- the ends
@@ -31,23 +32,6 @@ pub falls-end : (b i : ℕ) (ends : List ℕ) → length ends ≤ i → fallsFro
 unfolding fallsFrom
 falls-end b i ends h = rw (drop-of-length-le ends h)
 
--- ends of which none falls end at or after the one before
-falls-none : (b i e : ℕ) (ends : List ℕ) → fallsFrom b i (e ∷ ends) ≡ none → b ≤ e
-unfolding fallsFrom
-falls-none b i e ends h =
-    ⊎-elim
-    (λ (q : e < b). let z : some i ≡ none = rw (lt-ltb e b q, fallsFrom) at h in absurd (let w : _≡_ {A = ℕ} 0 1 = cc in omega arith))
-    (λ (q : b ≤ e). q)
-    (lt-or-le e b)
-
-pub end-last : (b i : ℕ) (ends : List ℕ) → fallsFrom b i ends ≡ none → b ≤ lastEnd b ends
-unfolding lastEnd fallsFrom
-end-last b i [] h = omega arith
-end-last b i (e ∷ ends) h =
-    let k = falls-none b i e ends h in
-    let j = end-last e (suc i) ends (rw (le-ltb e b k, fallsFrom) at h) in
-    omega arith
-
 -- the runs from label i on, the first of them from place a on, where the ends are in order and the last is the length
 pub record Ordered (numbers ends : List ℕ) (a i : ℕ) : Type 0 where
   pub rise : fallsFrom a i (drop i ends) ≡ none
@@ -57,7 +41,7 @@ pub next-end : (numbers ends : List ℕ) (a i : ℕ) → i < length ends → Ord
 unfolding lastEnd
 next-end numbers ends a i l o =
     let r = rw (drop-cons ends i 0 l) at (o .rise) in
-    let k = falls-none a i (getD ends i 0) (drop (suc i) ends) r in
+    let k = not-fallen a i (getD ends i 0) (drop (suc i) ends) r .0 in
     let s = falls-on a i ends l k in
     let j = end-last (getD ends i 0) (i + 1) (drop (i + 1) ends) (sym s ∙ o .rise) in
     let e = rw (drop-cons ends i 0 l) at (o .last) in
@@ -74,33 +58,32 @@ next-ordered numbers ends a i l o =
 
 -- ---- the numbers of a run
 
-pub run-start : (a e : ℕ) (numbers : List ℕ) → a < e → e ≤ length numbers
-    → unrisen a (take (e - a) (drop a numbers)) ≡ unrisenAfter a (getD numbers a 0) (take (e - suc a) (drop (suc a) numbers))
-unfolding unrisen
-run-start a e numbers h l = rw (part-cons a e numbers h l)
+-- the first number from place i of a run on that is not above the one before, the run being at place a
+unfoldable pub onward : ℕ → ℕ → List ℕ → Option ℕ
+onward a i s = unrisenAfter (a + i - 1) (getD s (i - 1) 0) (drop i s)
 
-pub run-empty : (a e : ℕ) (numbers : List ℕ) → a ≡ e → unrisen a (take (e - a) (drop a numbers)) ≡ none
-unfolding unrisen
-run-empty a e numbers h = rw (← h, part-empty a numbers)
+pub onward-start : (a : ℕ) (s : List ℕ) → unrisen a s ≡ onward a 1 s
+unfolding onward unrisen unrisenAfter
+onward-start a [] = refl
+onward-start a (x ∷ s) = let e : a + 1 - 1 ≡ a = omega arith in rw e
 
-pub run-at : (i e x : ℕ) (numbers : List ℕ) → 0 < i → i < e → e ≤ length numbers → getD numbers i 0 ≤ x
-    → unrisenAfter (i - 1) x (take (e - i) (drop i numbers)) ≡ some i
-unfolding unrisenAfter
-run-at i e x numbers p h l q =
-    let j : suc (i - 1) ≡ i = omega arith in
-    rw (part-cons i e numbers h l) (rw (le-ltb x (getD numbers i 0) q, unrisenAfter) (ap some j))
+module _ (a : ℕ) (s : List ℕ) (i : ℕ) (h : 1 ≤ i) where
+  pub onward-stop : i < length s → getD s i 0 ≤ getD s (i - 1) 0 → onward a i s ≡ some (a + i)
+  unfolding onward unrisenAfter
+  onward-stop l q =
+      let e : suc (a + i - 1) ≡ a + i = omega arith in rw (drop-cons s i 0 l, le-ltb (getD s (i - 1) 0) (getD s i 0) q, unrisenAfter, e)
 
-pub run-on : (i e x : ℕ) (numbers : List ℕ) → 0 < i → i < e → e ≤ length numbers → x < getD numbers i 0
-    → unrisenAfter (i - 1) x (take (e - i) (drop i numbers)) ≡ unrisenAfter (i + 1 - 1) (getD numbers i 0) (take (e - (i + 1)) (drop (i + 1) numbers))
-unfolding unrisenAfter
-run-on i e x numbers p h l q =
-    let j : suc (i - 1) ≡ i = omega arith in
-    let k : i + 1 - 1 ≡ i = omega arith in
-    rw (part-cons i e numbers h l, k, add-one i) (rw (lt-ltb x (getD numbers i 0) q, unrisenAfter) (rw j))
+  pub onward-on : i < length s → getD s (i - 1) 0 < getD s i 0 → onward a i s ≡ onward a (i + 1) s
+  unfolding onward unrisenAfter
+  onward-on l q =
+      let e : a + (i + 1) - 1 ≡ a + i = omega arith in
+      let f : suc (a + i - 1) ≡ a + i = omega arith in
+      let g : i + 1 - 1 ≡ i = omega arith in
+      rw (e, g, add-one i, drop-cons s i 0 l, lt-ltb (getD s (i - 1) 0) (getD s i 0) q, unrisenAfter, f)
 
-pub run-end : (i e x : ℕ) (numbers : List ℕ) → e ≤ i → unrisenAfter (i - 1) x (take (e - i) (drop i numbers)) ≡ none
-unfolding unrisenAfter
-run-end i e x numbers h = let z : e - i ≡ 0 = omega arith in rw z
+pub onward-end : (a : ℕ) (s : List ℕ) (i : ℕ) → length s ≤ i → onward a i s ≡ none
+unfolding onward unrisenAfter
+onward-end a s i h = rw (drop-of-length-le s h)
 
 -- ---- the runs, one after another
 

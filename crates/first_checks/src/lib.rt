@@ -36,22 +36,16 @@ fn falling_end(ends: &[u32]) -> Found
     Found::Nothing
 }
 
-// The first number from start to end that is not above the one before.
-fn unrisen_in_run(numbers: &[u32], start: usize, end: usize) -> Found
-    requires { ⌜ (start ≤ end) × (end ≤ length (now numbers)) ⌝ }
-    ensures { λ r. ⌜ placeOf r ≡ unrisen start (take (end - start) (drop start (now (numbers .entry)))) ⌝ }
+// The place of the first number of a run that is not above the one before, the run's first number being at `start`.
+pub fn first_unrisen(run: &[u32], start: usize) -> Found
+    requires { ⌜ start + length (now run) < 18446744073709551616 ⌝ }
+    ensures { λ r. ⌜ placeOf r ≡ unrisen start (now (run .entry)) ⌝ }
 {
-    if start == end {
-        return Found::Nothing;
-    }
-    let mut prior = numbers[start];
-    let mut i = start + 1;
-    while i < end {
-        let x = numbers[i];
-        if x <= prior {
-            return Found::At(i);
+    let mut i = 1;
+    while i < run.len() {
+        if run[i] <= run[i - 1] {
+            return Found::At(start + i);
         }
-        prior = x;
         i += 1;
     }
     Found::Nothing
@@ -72,7 +66,7 @@ fn unrisen_number(numbers: &[u32], ends: &[u32]) -> Found
     let mut i: usize = 0;
     while i < ends.len() {
         let end = wide(ends[i]);
-        if let Found::At(place) = unrisen_in_run(numbers, start, end) {
+        if let Found::At(place) = first_unrisen(&numbers[start..end], start) {
             return Found::At(place);
         }
         start = end;

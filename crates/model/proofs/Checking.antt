@@ -27,24 +27,21 @@ use Rattle.model.proofs.Tests.{both, lt-or-le, eq-or-ne, or-false, and-
 -- ---- what the tests say
 
 -- numbers from the first to the last
-within-none : (f l : ℕ) (s : List ℕ) → ((x : ℕ) → List·Memᴰ x s → f ≤ x → x ≤ l → ⊥) → length (within f l s) ≡ 0
+pub within-none : (f l : ℕ) (s : List ℕ) → ((x : ℕ) → List·Memᴰ x s → f ≤ x → x ≤ l → ⊥) → length (within f l s) ≡ 0
 unfolding within
 within-none f l [] h = refl
 within-none f l (y ∷ s) h =
     let i = within-none f l s (λ x m. h x (List·Memᴰ·tail m)) in
     ⊎-elim
+    (λ (q : y < f). rw (lt-leb f y q, within) i)
     (λ (q : f ≤ y).
     ⊎-elim
     (λ (o : l < y). rw (le-leb f y q, lt-leb y l o, within) i)
     (λ (o : y ≤ l). absurd (h y (List·Memᴰ·head refl) q o))
     (lt-or-le l y))
-    (λ (q : y < f). rw (lt-leb f y q, within) i)
-    (⊎-swapped (lt-or-le y f))
-  where
-    ⊎-swapped : {A B : Type 0} → mathlib.Core.Logic._⊎_ A B → mathlib.Core.Logic._⊎_ B A
-    ⊎-swapped w = ⊎-elim mathlib.Core.Logic.inr mathlib.Core.Logic.inl w
+    (lt-or-le y f)
 
-within-some : (f l : ℕ) (s : List ℕ) (x : ℕ) → List·Memᴰ x s → f ≤ x → x ≤ l → 0 < length (within f l s)
+pub within-some : (f l : ℕ) (s : List ℕ) (x : ℕ) → List·Memᴰ x s → f ≤ x → x ≤ l → 0 < length (within f l s)
 unfolding within
 within-some f l [] x m i j = absurd (List·Memᴰ·not-nil m)
 within-some f l (y ∷ s) x m i j =
@@ -163,7 +160,7 @@ settles rs t b at p e l n h =
 
 -- ---- the whole
 
-size-pos : (p : Part) → 0 < sizeOf p
+pub size-pos : (p : Part) → 0 < sizeOf p
 unfolding sizeOf
 size-pos (answer v m) = omega arith
 size-pos (gap f l m) = omega arith
@@ -211,7 +208,7 @@ end-valid rs t b at a n e =
     (eq-or-ne b pastBin)
 
 -- the steps of the checker
-check-read : (fuel : ℕ) (rs : List Run) (t b at x : ℕ) (bytes rest : List ℕ) (p : Part) → readField (x ∷ bytes) ≡ read p rest → checkPart rs t b at p ≡ passed
+pub check-read : (fuel : ℕ) (rs : List Run) (t b at x : ℕ) (bytes rest : List ℕ) (p : Part) → readField (x ∷ bytes) ≡ read p rest → checkPart rs t b at p ≡ passed
     → checkFrom (suc fuel) rs t b at (x ∷ bytes) ≡ counted p (checkFrom fuel rs t (suc (lastOf p)) (at + sizeOf p) rest)
 unfolding checkFrom
 check-read fuel rs t b at x bytes rest p e h = rw (e, checkFrom, h)

@@ -9,7 +9,7 @@ use mathlib.Core.Path.{_≡_, refl, sym, ap, _∙_, subst}
 use native.Mathlib.Nat.{le-trans, mul-le-mul-right}
 use native.Mathlib.Omega.{arith}
 use Rattle.model.specs.Certificate.{Part, answersOf, encode, TrueCertificate}
-use Rattle.model.specs.Compared.{wholeWalk, partsOf, wholeCertificate, probeIn, probesIn, probesOf, digits, boundIn, bound}
+use Rattle.model.specs.Compared.{wholeWalk, partsOf, wholeCertificate, probeIn, probesIn, probesOf, digits, boundOf, boundIn, bound}
 use Rattle.model.specs.Demands.{Fits, answersIn, partsIn, bytesIn, probesMade, refusedBy, Certified, Demand2, Bounded, Demand3}
 use Rattle.model.specs.Refusals.{Check, passed, firstChecks, Room, Ended, cut, cutWalk, Outcome, Answered, over, outcomeOf, query}
 use Rattle.model.specs.Runs.{Run, firstBin, pastBin, runs, total}
@@ -97,7 +97,7 @@ module _ (rs : List Run) (t allowance : ℕ) (answers certificate : List ℕ) wh
 
   -- d × 2 × digits of a run, whatever the walk did of the whole
   each-bound : Fit rs t → (d : ℕ) → length (wholeCertificate t rs) ≤ d → (r : Run) → List·Memᴰ r rs → probesIn (r .label) (wholeWalk t rs) ≤ boundIn d r
-  unfolding boundIn wholeCertificate
+  unfolding boundIn boundOf wholeCertificate
   each-bound g d h r m =
       let k = walk-probes g (whole-walked g) r m in
       let i = mul-le-mul-right (2 * digits (length (r .bins))) h in

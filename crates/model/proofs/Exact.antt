@@ -104,7 +104,7 @@ answers-rise b [] c = refl
 answers-rise b (answer v n ∷ ps) c = answers-after 0 v (suc v) ps (covers-rest c) (omega arith)
 answers-rise b (gap f g n ∷ ps) c = answers-rise (suc g) ps (covers-rest c)
 
-first-least : firstBin ≡ 0
+pub first-least : firstBin ≡ 0
 unfolding firstBin
 first-least = refl
 

@@ -109,6 +109,25 @@ all-risen a (s ∷ rs) e h = go (unrisen a (s .bins)) refl (λ b k. all-risen b 
         let z : some i ≡ none = rw (k, unrisenIn) at e in
         absurd (let w : _≡_ {A = ℕ} 0 1 = cc in omega arith)
 
+-- ends that do not fall: the first is not below the one before, the others do not fall, and the last is not below it either
+pub not-fallen : (b i e : ℕ) (ends : List ℕ) → fallsFrom b i (e ∷ ends) ≡ none → (b ≤ e) × (fallsFrom e (suc i) ends ≡ none)
+unfolding fallsFrom
+not-fallen b i e ends h =
+    ⊎-elim
+    (λ (q : e < b).
+    let z : some i ≡ none = rw (lt-ltb e b q, fallsFrom) at h in
+    absurd (let w : _≡_ {A = ℕ} 0 1 = cc in omega arith))
+    (λ (q : b ≤ e). (q, rw (le-ltb e b q, fallsFrom) at h))
+    (lt-or-le e b)
+
+pub end-last : (b i : ℕ) (ends : List ℕ) → fallsFrom b i ends ≡ none → b ≤ lastEnd b ends
+unfolding lastEnd
+end-last b i [] h = omega arith
+end-last b i (e ∷ ends) h =
+    let n = not-fallen b i e ends h in
+    let l = end-last e (suc i) ends (n .1) in
+    omega (arith, n .0)
+
 -- a bound on the number at each place
 pub fits : (w : ℕ) (s : List ℕ) → ((i : ℕ) → getD s i 0 < w) → Fits w s
 fits w [] h = record { each = λ x m. absurd (List·Memᴰ·not-nil m) }

@@ -47,7 +47,7 @@ named p f rs l r m = names-mask p 0 (at f rs) (labelled-at f l) (fromRun f r) (m
 pub only-at : (p : Run → Bool) (f : ℕ) (rs : List Run) → Labelled 0 rs → mask p (at f rs) < 2 ^ length rs
 only-at p f rs l = subst (λ (n : ℕ). mask p (at f rs) < 2 ^ n) (at-length f rs) (mask-only p (at f rs) (labelled-at f l))
 
-not-below : (h v : ℕ) → leb v h ≡ not (ltb h v)
+pub not-below : (h v : ℕ) → leb v h ≡ not (ltb h v)
 not-below h v =
     ⊎-elim
     (λ (q : h < v). rw (lt-ltb h v q, lt-leb v h q))

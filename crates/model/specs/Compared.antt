@@ -56,9 +56,12 @@ digitsFrom (suc fuel) b n = elim (ltb n (2 ^ b)) [ true ↦ b | false ↦ digits
 unfoldable pub digits : ℕ → ℕ
 digits n = digitsFrom n 0 n
 
--- 2 × d × b for one run, and the sum of these bounds over all lists
+-- 2 × d × b for a list of n numbers, for one run, and the sum of these bounds over all lists
+unfoldable pub boundOf : ℕ → ℕ → ℕ
+boundOf d n = 2 * d * digits n
+
 unfoldable pub boundIn : ℕ → Run → ℕ
-boundIn d r = 2 * d * digits (length (r .bins))
+boundIn d r = boundOf d (length (r .bins))
 
 unfoldable pub bound : ℕ → List Run → ℕ
 bound d rs = total (boundIn d) rs

@@ -21,11 +21,15 @@ pub record Run : Type 0 where
   pub label : ℕ
   pub bins : List ℕ
 
+-- the numbers from a place on and before another
+abbrev pub slice : List ℕ → ℕ → ℕ → List ℕ
+slice numbers start end = take (end - start) (drop start numbers)
+
 -- Run 0 starts at place 0, and run i starts at the end of run i − 1. (Here: the runs from label i on, the first of them from place a on.)
 unfoldable pub runsFrom : ℕ → ℕ → List ℕ → List ℕ → List Run
 runsFrom i a numbers [] = []
 runsFrom i a numbers (e ∷ ends) =
-    record { label = i; bins = take (e - a) (drop a numbers) } ∷ runsFrom (suc i) e numbers ends
+    record { label = i; bins = slice numbers a e } ∷ runsFrom (suc i) e numbers ends
 
 unfoldable pub runs : List ℕ → List ℕ → List Run
 runs numbers ends = runsFrom 0 0 numbers ends

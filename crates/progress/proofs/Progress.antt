@@ -51,11 +51,11 @@ placed-one l at x h =
 pub placed-keeps : (l xs : List ℕ) (at : ℕ) → at + length xs ≤ length l → length (placed l at xs) ≡ length l
 placed-keeps l xs at h = placed-length xs l at h
 
-size-gap : (f l m : ℕ) → sizeOf (gap f l m) ≡ 19
+pub size-gap : (f l m : ℕ) → sizeOf (gap f l m) ≡ 19
 unfolding sizeOf
 size-gap f l m = refl
 
-size-answer : (v m : ℕ) → sizeOf (answer v m) ≡ 15
+pub size-answer : (v m : ℕ) → sizeOf (answer v m) ≡ 15
 unfolding sizeOf
 size-answer v m = refl
 

@@ -22,11 +22,8 @@ use Rattle.query.proofs.Advancing.{heads-small}
 use Rattle.query.proofs.Passing.{labels, number, few-runs, last-bin}
 use Rattle.query.proofs.Rounds.{gap-mask, round-ends}
 use Rattle.query.proofs.Rows.{row-labels, row-bins, row-length, row-mask, tth-key}
+use Rattle.walk.proofs.Moving.{past-is}
 use Rattle.walk.specs.State.{runsAt}
-
-pub past-is : pastBin ≡ 4294967296
-unfolding pastBin
-past-is = refl
 
 module _ (numbers ends positions keys A B : List ℕ) (t : ℕ) (w : State) (s : Stands numbers ends positions keys t w) (fits : Fitted A B w) where
   abbrev rs : List Run

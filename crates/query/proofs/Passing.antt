@@ -19,7 +19,8 @@ use Rattle.model.proofs.Masks.{Labelled, mask-only}
 use Rattle.model.proofs.Tests.{both, lt-or-le, eq-or-ne}
 use Rattle.model.proofs.Walking.{past-last, equal, map-same, map-mem}
 use Rattle.order.proofs.Row.{ordered-drop, below-le}
-use Rattle.order.specs.Row.{Ordered, sumOf, belowCount, labelSum, Labels}
+use Rattle.model.proofs.Heads.{Ordered}
+use Rattle.order.specs.Row.{sumOf, belowCount, labelSum, Labels}
 use Rattle.query.specs.Turns.{countsOf, Stands, Fitted, AtFloor, Passes}
 use Rattle.query.specs.declared.State.{State}
 use Rattle.query.specs.declared.Turn.the-variants.{On, Done, Stopped}

@@ -10,19 +10,17 @@ use Rattle.model.specs.Refusals.{Outcome, accepted, refused, refusal, passed, f
 use Rattle.model.specs.Runs.{Run, firstBin, pastBin, runs}
 use Rattle.model.specs.Walk.{walk}
 use Rattle.model.proofs.Demands as demands
+use Rattle.model.proofs.Exact.{first-least}
 use Rattle.model.proofs.FirstChecks.{first-passed, fit}
 use Rattle.progress.specs.Progress.{Counts, noCounts, onward, outcomeAt, ended}
 use Rattle.progress.proofs.Progress.{onward-start}
-use Rattle.query.specs.Turns.{countsOf, goesOn, endsWith, Stands, Fitted, Finishes, Begins, ComesTo, Returns}
+use Rattle.query.specs.Turns.{countsOf, goesOn, endsWith, Stands, Fitted, Finishes, Begins, ComesTo}
+use Rattle.query.specs.Outcomes.{Returns}
 use Rattle.query.specs.declared.End.{End}
 use Rattle.query.specs.declared.State.{State}
-use Rattle.query.proofs.Ending.{past-is}
+use Rattle.walk.proofs.Moving.{past-is}
 use Rattle.walk.specs.Moves.{BeginReady}
 use Rattle.walk.specs.State.{runsAt, Holds}
-
-first-is : firstBin ≡ 0
-unfolding firstBin
-first-is = refl
 
 -- the state before the first round
 abbrev pub firstState : ℕ → ℕ → State
@@ -67,7 +65,7 @@ module _ (numbers ends : List ℕ) (t : ℕ) (positions keys : List ℕ) (b : Be
           as-asked =
               rw (b .checked, query)
               (onward-start t (runs numbers ends) allowance A B
-              ∙ ((λ i. onward allowance (record { answers = 0; parts = 0; bytes = 0; probes = z i }) A B (walk pastBin t (first-is i) (sym (h .runs-are) i)))
+              ∙ ((λ i. onward allowance (record { answers = 0; parts = 0; bytes = 0; probes = z i }) A B (walk pastBin t (first-least i) (sym (h .runs-are) i)))
               ∙ f .comes-to allowance pastBin (omega arith) (omega arith)));
         }
 

@@ -16,7 +16,9 @@ use Rattle.model.proofs.Count.{total-eq, total-add}
 use Rattle.model.proofs.Heads.{below}
 use Rattle.model.proofs.Masks.{Labelled, labelled-nil, labelled-cons, label-first, label-rest}
 use Rattle.model.proofs.Tests.{both, lt-or-le}
+use Rattle.model.proofs.Truth.{not-below}
 use Rattle.model.proofs.Walking.{equal}
+use Rattle.query.proofs.Rows.{one-true}
 use Rattle.progress.proofs.Progress.{Quiet, quiet-nil, quiet-sought, quiet-doubled, quiet-halved}
 
 -- ---- masks
@@ -25,10 +27,6 @@ one-not : (b : Bool) → one b + one (not b) ≡ 1
 unfolding one
 one-not true = refl
 one-not false = refl
-
-one-true : one true ≡ 1
-unfolding one
-one-true = refl
 
 every : Run → Bool
 every r = true
@@ -52,13 +50,6 @@ mask-split p q rs h =
     let f = ap one (h r) in
     let k : one (p r) + one (q r) ≡ one true = (let w = one-true in omega arith) in
     omega (arith, ap (λ x. x * 2 ^ r .label) k))
-
-not-below : (h v : ℕ) → leb v h ≡ not (ltb h v)
-not-below h v =
-    ⊎-elim
-    (λ (q : h < v). lt-leb v h q ∙ sym (ap not (lt-ltb h v q)))
-    (λ (q : v ≤ h). le-leb v h q ∙ sym (ap not (le-ltb h v q)))
-    (lt-or-le h v)
 
 -- the mask of the runs whose head is not below v: all but those whose head is
 pub gap-mask : (rs : List Run) → Labelled 0 rs → (v : ℕ) → 2 ^ length rs - 1 - mask (λ r. ltb (head r) v) rs ≡ mask (λ r. leb v (head r)) rs

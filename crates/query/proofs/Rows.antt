@@ -18,7 +18,8 @@ use Rattle.model.proofs.Heads.{Heads, atMost, below, below-mono, tth-enough, tt
 use Rattle.model.proofs.Masks.{Labelled, label-below, mask-only, names-mask}
 use Rattle.model.proofs.Tests.{both, lt-or-le, true-false}
 use Rattle.order.proofs.Row.{below-nil, below-pass, sum-one, member-sum, member-at, front-sum, rest-sum, below-sum, nth-enough, nth-few}
-use Rattle.order.specs.Row.{Ordered, sumOf, belowCount, labelSum, Labels}
+use Rattle.model.proofs.Heads.{Ordered}
+use Rattle.order.specs.Row.{sumOf, belowCount, labelSum, Labels}
 use Rattle.walk.specs.State.{keyOf, weigh, InOrder, notNamed}
 
 -- ---- one run
@@ -47,7 +48,7 @@ key-below r u h =
     (λ (q : u ≤ head r). le-ltb (head r * 256 + r .label) (u * 256) (omega arith) ∙ sym (le-ltb (head r) u q))
     (lt-or-le (head r) u)
 
-one-true : one true ≡ 1
+pub one-true : one true ≡ 1
 unfolding one
 one-true = refl
 

@@ -15,19 +15,11 @@ use Rattle.model.specs.Certificate.{answer, gap, encodePart, sizeOf}
 use Rattle.model.specs.Walk.{Event, wrote}
 use Rattle.model.proofs.Tests.{lt-or-le}
 use Rattle.progress.specs.Progress.{Counts, onward, ended, withGap, withAnswer}
-use Rattle.progress.proofs.Progress.{onward-gap, gap-full, onward-answer, answers-full, answer-full}
+use Rattle.progress.proofs.Progress.{size-gap, size-answer, onward-gap, gap-full, onward-answer, answers-full, answer-full}
 use Rattle.query.specs.Turns.{countsOf, goesOn, endsWith, Fitted, Grown, Writes, gapEvents, Answers}
 use Rattle.query.specs.declared.Answered.the-variants as answered′
 use Rattle.query.specs.declared.State.{State}
 use Rattle.query.specs.declared.Wrote.the-variants as wrote′
-
-size-gap : (f l m : ℕ) → sizeOf (gap f l m) ≡ 19
-unfolding sizeOf
-size-gap f l m = refl
-
-size-answer : (v m : ℕ) → sizeOf (answer v m) ≡ 15
-unfolding sizeOf
-size-answer v m = refl
 
 -- ---- a gap
 

@@ -1,4 +1,7 @@
--- What the code's outcome means in document 01's numbers.
+-- What the code's outcome means in document 01's numbers, and what a call returns and leaves in its buffers. Definitions only.
+use mathlib.Core.List.{List}
+use mathlib.Core.Path.{_≡_}
+use Prim.Native.Nat.{ℕ}
 use Rattle.model.specs.Refusals as model
 use Rattle.query.specs.declared.Outcome.{Outcome}
 use Rattle.query.specs.declared.Outcome.the-variants.{Accepted, Refused}
@@ -6,3 +9,9 @@ use Rattle.query.specs.declared.Outcome.the-variants.{Accepted, Refused}
 abbrev pub outcomeIs : Outcome → model.Outcome
 outcomeIs (Accepted answers parts bytes probes) = model.accepted answers parts bytes probes
 outcomeIs (Refused number place answers bytes probes) = model.refused number place answers bytes probes
+
+-- the outcome and the contents of both buffers are those of the question
+pub record Returns (answered : model.Answered) (outcome : model.Outcome) (answers′ certificate′ : List ℕ) : Type 0 where
+  pub outcome-is : outcome ≡ answered .outcome
+  pub answers-are : answers′ ≡ answered .answers
+  pub certificate-is : certificate′ ≡ answered .certificate

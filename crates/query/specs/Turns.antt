@@ -9,7 +9,7 @@ use lib.ListN.{length, drop}
 use Rattle.model.proofs.From.{Rise}
 use Rattle.model.proofs.Walking.{equal}
 use Rattle.model.specs.Certificate.{answer, gap}
-use Rattle.model.specs.Refusals.{Outcome, passed, firstChecks}
+use Rattle.model.specs.Refusals.{passed, firstChecks}
 use Rattle.model.specs.Runs.{Run, lastBin, pastBin, mask}
 use Rattle.model.proofs.Heads.{below}
 use Rattle.model.specs.Walk.{Event, wrote, head, tthHead, searched, movedOn, settle, round, walk}
@@ -164,9 +164,3 @@ pub record Begins (numbers ends : List ℕ) (t : ℕ) (positions keys : List ℕ
 pub record ComesTo (answered : Rattle.model.specs.Refusals.Answered) (allowance : ℕ) (answers′ certificate′ : List ℕ) (r : End) : Type 0 where
   pub left : r .at .left ≤ allowance
   pub as-asked : answered ≡ endsWith (r .number) allowance (r .at) answers′ certificate′
-
--- the outcome and the contents of both buffers are those of the question
-pub record Returns (answered : Rattle.model.specs.Refusals.Answered) (outcome : Outcome) (answers′ certificate′ : List ℕ) : Type 0 where
-  pub outcome-is : outcome ≡ answered .outcome
-  pub answers-are : answers′ ≡ answered .answers
-  pub certificate-is : certificate′ ≡ answered .certificate

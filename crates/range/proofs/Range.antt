@@ -1,67 +1,17 @@
--- The part of a rising list between two numbers stands from the rank of the first on and before the rank of the number after the last. Also the
--- turns of the pass that tests whether a list rises. Assumes nothing.
+-- The part of a rising list between two numbers stands from the rank of the first on and before the rank of the number after the last. Assumes nothing.
 use Prim.Native.Nat.{ℕ, suc, _+_, _-_, _≤_, _<_}
 use borrow.Author.Tests.{lt-ltb, le-ltb, le-leb, lt-leb}
-use lib.ListN.{length, getD, take, drop, drop-of-length-le}
-use lib.Seq.{drop-cons}
-use mathlib.Core.Bool.{true, false}
+use lib.ListN.{length, take, drop}
 use mathlib.Core.List.{List, [], _∷_}
 use mathlib.Core.Logic.{⊎-elim}
-use mathlib.Core.Option.{Option, none, some}
+use mathlib.Core.Option.{none, some}
 use mathlib.Core.Path.{_≡_, refl, sym, ap, _∙_}
-use native.Mathlib.Numerals.{add-one}
 use native.Mathlib.Omega.{arith}
-use Rattle.model.proofs.FirstChecks.{risen}
 use Rattle.model.proofs.From.{Rise, rise-nil, rise-cons, rank, rank-nil, rank-pass, rank-stop, rank-le, below-rank, from-rank}
-use Rattle.model.proofs.Tests.{lt-or-le, true-false}
-use Rattle.model.specs.Demands.{Fits}
+use Rattle.model.proofs.Tests.{lt-or-le}
 use Rattle.model.specs.Range.{within, between}
-use Rattle.model.specs.Runs.{pastBin, unrisen, unrisenAfter}
-use Rattle.range.specs.Range.{rising, Spans}
-
--- ---- whether a list rises
-
--- the first number from place i on that is not above the one before
-unfoldable pub onward : ℕ → List ℕ → Option ℕ
-onward i s = unrisenAfter (i - 1) (getD s (i - 1) 0) (drop i s)
-
-pub onward-start : (s : List ℕ) → unrisen 0 s ≡ onward 1 s
-unfolding onward unrisen unrisenAfter
-onward-start [] = refl
-onward-start (x ∷ s) = refl
-
-module _ (s : List ℕ) (i : ℕ) (h : 1 ≤ i) where
-  pub onward-stop : i < length s → getD s i 0 ≤ getD s (i - 1) 0 → onward i s ≡ some i
-  unfolding onward unrisenAfter
-  onward-stop l q =
-      let e : suc (i - 1) ≡ i = omega arith in rw (drop-cons s i 0 l, le-ltb (getD s (i - 1) 0) (getD s i 0) q, unrisenAfter, e)
-
-  pub onward-on : i < length s → getD s (i - 1) 0 < getD s i 0 → onward i s ≡ onward (i + 1) s
-  unfolding onward unrisenAfter
-  onward-on l q =
-      let e : i + 1 - 1 ≡ i = omega arith in
-      let f : suc (i - 1) ≡ i = omega arith in
-      rw (e, add-one i, drop-cons s i 0 l, lt-ltb (getD s (i - 1) 0) (getD s i 0) q, unrisenAfter, f)
-
-pub onward-end : (s : List ℕ) (i : ℕ) → length s ≤ i → onward i s ≡ none
-unfolding onward unrisenAfter
-onward-end s i h = rw (drop-of-length-le s h)
-
-pub rising-none : (s : List ℕ) → unrisen 0 s ≡ none → rising s ≡ true
-unfolding rising
-rising-none s e = rw (e, rising)
-
-pub rising-some : (s : List ℕ) (i : ℕ) → unrisen 0 s ≡ some i → rising s ≡ false
-unfolding rising
-rising-some s i e = rw (e, rising)
-
-pub rising-rise : (s : List ℕ) → Fits pastBin s → rising s ≡ true → Rise 0 s
-unfolding rising
-rising-rise s h e = go (unrisen 0 s) refl
-  where
-    go : (o : Option ℕ) → unrisen 0 s ≡ o → Rise 0 s
-    go none k = risen 0 s k h
-    go (some i) k = true-false e (rising-some s i k)
+use Rattle.model.specs.Runs.{unrisen}
+use Rattle.range.specs.Range.{Spans}
 
 -- ---- the part between two numbers
 
@@ -129,26 +79,18 @@ module _ (first last : ℕ) (s : List ℕ) where
   unfolding between
   between-none h = rw (lt-ltb last first h, between)
 
-  pub between-unrisen : first ≤ last → rising s ≡ false → between first last s ≡ []
-  unfolding between rising
-  between-unrisen h e = go (unrisen 0 s) refl
-    where
-      go : (o : Option ℕ) → unrisen 0 s ≡ o → between first last s ≡ []
-      go none k = true-false (rising-none s k) e
-      go (some i) k = rw (le-ltb last first h, k, between)
+  pub between-unrisen : (i : ℕ) → first ≤ last → unrisen 0 s ≡ some i → between first last s ≡ []
+  unfolding between
+  between-unrisen i h e = rw (le-ltb last first h, e, between)
 
-  between-risen : first ≤ last → rising s ≡ true → between first last s ≡ within first last s
-  unfolding between rising
-  between-risen h e = go (unrisen 0 s) refl
-    where
-      go : (o : Option ℕ) → unrisen 0 s ≡ o → between first last s ≡ within first last s
-      go none k = rw (le-ltb last first h, k, between)
-      go (some i) k = true-false e (rising-some s i k)
+  between-risen : first ≤ last → unrisen 0 s ≡ none → between first last s ≡ within first last s
+  unfolding between
+  between-risen h e = rw (le-ltb last first h, e, between)
 
   pub spans-none : between first last s ≡ [] → Spans first last s (record { start = 0; end = 0 })
   spans-none e = record { ordered = omega arith; inside = omega arith; part = sym e }
 
-  pub spans-ranks : first ≤ last → rising s ≡ true → Rise 0 s → Spans first last s (record { start = rank first s; end = rank (last + 1) s })
+  pub spans-ranks : first ≤ last → unrisen 0 s ≡ none → Rise 0 s → Spans first last s (record { start = rank first s; end = rank (last + 1) s })
   spans-ranks h e r = record {
     ordered = rank-mono first (last + 1) s (omega arith);
     inside = rank-le (last + 1) s;

@@ -2,26 +2,13 @@
 ghost use mathlib.Core.Path.{_≡_};
 ghost use Rattle.model.proofs.From.{Rise, rank};
 ghost use Rattle.model.specs.Range.{between};
-ghost use Rattle.range.specs.Range.{rising, Spans};
+ghost use Rattle.range.specs.Range.{Spans};
+use first_checks::Found;
 
 // The places from `start` on and before `end`.
 pub struct Span {
     pub start: usize,
     pub end: usize,
-}
-
-// Whether each number is greater than the one before. One pass over the list.
-fn rises(list: &[u32]) -> bool
-    ensures { λ r. ⌜ r ≡ rising (now (list .entry)) ⌝ }
-{
-    let mut i = 1;
-    while i < list.len() {
-        if list[i] <= list[i - 1] {
-            return false;
-        }
-        i += 1;
-    }
-    true
 }
 
 // How many numbers of a rising list are below `v`, by halving.
@@ -56,7 +43,7 @@ pub fn between_at(list: &[u32], first: u32, last: u32) -> Span
     if last < first {
         return Span { start: 0, end: 0 };
     }
-    if rises(list) {
+    if let Found::Nothing = first_checks::first_unrisen(list, 0) {
         let start = first_at_least(list, wide(first));
         let end = first_at_least(list, wide(last) + 1);
         return Span { start, end };

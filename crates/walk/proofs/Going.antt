@@ -11,7 +11,7 @@ use mathlib.Core.Logic.{⊎-elim, _≢_}
 use mathlib.Core.Path.{_≡_, refl, sym, ap, ap₂, _∙_, subst}
 use native.Mathlib.Nat.{zero-div, zero-mod}
 use native.Mathlib.Omega.{arith}
-use Rattle.model.specs.Runs.{Run, pastBin, total, one, count, bit, names}
+use Rattle.model.specs.Runs.{Run, pastBin, total, one, count, bit, names, slice}
 use Rattle.model.specs.Walk.{head, headOf, seek, searchIn, searches, searched, movedOn}
 use Rattle.model.specs.Compared.{cost, probe, probesOf}
 use Rattle.model.proofs.Bounds.{search-cost, search-none}
@@ -20,8 +20,9 @@ use Rattle.model.proofs.Events.{cost-searches}
 use Rattle.model.proofs.Masks.{Labelled, below-only}
 use Rattle.model.proofs.Tests.{both, lt-or-le, eq-or-ne}
 use Rattle.order.proofs.Row.{sum-one}
-use Rattle.order.specs.Row.{Ordered, sumOf}
-use Rattle.walk.specs.Moves.{from-place, PutBack, Movable, RunMoved, stepNamed}
+use Rattle.model.proofs.Heads.{Ordered}
+use Rattle.order.specs.Row.{sumOf}
+use Rattle.walk.specs.Moves.{PutBack, Movable, RunMoved, stepNamed}
 use Rattle.walk.specs.State.{runsAt, weigh, putHead, InOrder, Inside, notNamed, Holds, Lacks}
 use Rattle.walk.proofs.Moving.{noRun, runs-at-length, runs-at-labels, run-at, runs-at-set, label-at, member-at, pending, pending-named, pending-moved, not-named-zero, not-named-is, Cleared, run-named, state-step, sum-step, put-sum, put-ordered}
 
@@ -158,7 +159,7 @@ module _ (numbers ends positions keys : List ℕ) (start rest run : ℕ) (rs : L
       record { index = i; small = omega arith; inside = g .inside; free = omega arith; starts = s; ordered = g .ordered }
 
   -- the run is where it was
-  pub run-is : getD rs run noRun ≡ record { label = run; bins = from-place numbers (getD positions run 0) (getD ends run 0) }
+  pub run-is : getD rs run noRun ≡ record { label = run; bins = slice numbers (getD positions run 0) (getD ends run 0) }
   run-is =
       let i = index in
       let n : run < length rs = omega arith in
@@ -167,11 +168,11 @@ module _ (numbers ends positions keys : List ℕ) (start rest run : ℕ) (rs : L
       ∙ (sym (getD-map (pending m rest) rs run n)
       ∙ (ap (λ x. getD x run noRun) (sym (g .runs-are))
       ∙ (run-at 0 numbers positions ends run (g .inside .lengths) i
-      ∙ λ d. record { label = z d; bins = from-place numbers (getD positions run 0) (getD ends run 0) })))
+      ∙ λ d. record { label = z d; bins = slice numbers (getD positions run 0) (getD ends run 0) })))
 
   -- the next turn, after the run has been moved to q
   pub going-on : (rest′ q : ℕ) (positions′ keys′ : List ℕ) (next : ℕ) → Cleared rest rest′ run → rest′ < rest
-      → m (getD rs run noRun) ≡ record { label = run; bins = from-place numbers q (getD ends run 0) }
+      → m (getD rs run noRun) ≡ record { label = run; bins = slice numbers q (getD ends run 0) }
       → RunMoved numbers positions keys start run q (getD ends run 0) positions′ keys′ next → Going numbers ends rs m rest′ positions′ keys′ next
   going-on rest′ q positions′ keys′ next cleared less e moved =
       let i = index in
@@ -192,7 +193,7 @@ module _ (numbers ends positions keys : List ℕ) (start rest run : ℕ) (rs : L
         runs-are =
             ap (λ x. runsAt 0 numbers x ends) (moved .positions-are)
             ∙ (runs-at-set 0 numbers positions ends run q (g .inside .lengths) i
-            ∙ ((λ d. set (runsAt 0 numbers positions ends) run (record { label = z d; bins = from-place numbers q (getD ends run 0) }))
+            ∙ ((λ d. set (runsAt 0 numbers positions ends) run (record { label = z d; bins = slice numbers q (getD ends run 0) }))
             ∙ (ap₂ (λ x y. set x run y) (g .runs-are) (sym e) ∙ sym (state-step rs labels rest rest′ run cleared n m))));
         ordered = subst (λ x. Ordered 0 x) (sym (p .row)) (put-ordered _ run (drop start keys) (g .ordered));
         same = λ h.
@@ -202,9 +203,9 @@ module _ (numbers ends positions keys : List ℕ) (start rest run : ℕ) (rs : L
         only = omega arith;
       }
     where
-      head-is : m (getD rs run noRun) ≡ record { label = run; bins = from-place numbers q (getD ends run 0) }
-          → head (m (getD rs run noRun)) ≡ headOf (from-place numbers q (getD ends run 0))
-      head-is f = ap head f ∙ head-of run (from-place numbers q (getD ends run 0))
+      head-is : m (getD rs run noRun) ≡ record { label = run; bins = slice numbers q (getD ends run 0) }
+          → head (m (getD rs run noRun)) ≡ headOf (slice numbers q (getD ends run 0))
+      head-is f = ap head f ∙ head-of run (slice numbers q (getD ends run 0))
 
       at-most : (j : ℕ) → j < length ends → getD positions′ j 0 ≤ getD ends j 0
       at-most j k =
@@ -227,7 +228,7 @@ drop-take (suc n) zero l = let e : 0 - suc n ≡ 0 = omega arith in rw e
 drop-take (suc n) (suc k) [] = sym (lib.Seq.take-nil (suc k - suc n))
 drop-take (suc n) (suc k) (x ∷ l) = let e : suc k - suc n ≡ k - n = omega arith in rw e (drop-take n k l)
 
-pub drop-part : (n p e : ℕ) (numbers : List ℕ) → drop n (from-place numbers p e) ≡ from-place numbers (p + n) e
+pub drop-part : (n p e : ℕ) (numbers : List ℕ) → drop n (slice numbers p e) ≡ slice numbers (p + n) e
 drop-part n p e numbers =
     let i : e - p - n ≡ e - (p + n) = omega arith in
     drop-take n (e - p) (drop p numbers) ∙ (ap₂ (λ x y. take x y) i (drop-drop n p numbers))
@@ -240,12 +241,12 @@ searched-moves : (v : ℕ) (r : Run) → ltb (head r) v ≡ true → searched v 
 unfolding searched
 searched-moves v r e = rw (e, searched)
 
-pub search-move : (numbers : List ℕ) (v run p e : ℕ) (r : Run) → r ≡ record { label = run; bins = from-place numbers p e } → ltb (head r) v ≡ true
-    → searched v r ≡ record { label = run; bins = from-place numbers (p + seek v (from-place numbers p e) .place) e }
+pub search-move : (numbers : List ℕ) (v run p e : ℕ) (r : Run) → r ≡ record { label = run; bins = slice numbers p e } → ltb (head r) v ≡ true
+    → searched v r ≡ record { label = run; bins = slice numbers (p + seek v (slice numbers p e) .place) e }
 search-move numbers v run p e r f h =
     ap (searched v) f
-    ∙ (searched-moves v (record { label = run; bins = from-place numbers p e }) (ap (λ x. ltb (head x) v) (sym f) ∙ h)
-    ∙ λ d. record { label = run; bins = drop-part (seek v (from-place numbers p e) .place) p e numbers d })
+    ∙ (searched-moves v (record { label = run; bins = slice numbers p e }) (ap (λ x. ltb (head x) v) (sym f) ∙ h)
+    ∙ λ d. record { label = run; bins = drop-part (seek v (slice numbers p e) .place) p e numbers d })
 
 pub step-still : (mask : ℕ) (r : Run) → names mask r ≡ false → stepNamed mask r ≡ r
 unfolding stepNamed
@@ -255,23 +256,23 @@ step-moves : (mask : ℕ) (r : Run) → names mask r ≡ true → stepNamed mask
 unfolding stepNamed
 step-moves mask r e = rw (e, stepNamed)
 
-pub step-move : (numbers : List ℕ) (mask run p e : ℕ) (r : Run) → r ≡ record { label = run; bins = from-place numbers p e } → names mask r ≡ true
-    → stepNamed mask r ≡ record { label = run; bins = from-place numbers (p + 1) e }
+pub step-move : (numbers : List ℕ) (mask run p e : ℕ) (r : Run) → r ≡ record { label = run; bins = slice numbers p e } → names mask r ≡ true
+    → stepNamed mask r ≡ record { label = run; bins = slice numbers (p + 1) e }
 step-move numbers mask run p e r f h =
     ap (stepNamed mask) f
-    ∙ (step-moves mask (record { label = run; bins = from-place numbers p e }) (ap (names mask) (sym f) ∙ h)
+    ∙ (step-moves mask (record { label = run; bins = slice numbers p e }) (ap (names mask) (sym f) ∙ h)
     ∙ λ d. record { label = run; bins = drop-part 1 p e numbers d })
 
 -- a run with a bin for a head has a number at its position
-pub has-number : (numbers : List ℕ) (run p e : ℕ) (r : Run) → r ≡ record { label = run; bins = from-place numbers p e } → head r < pastBin → p < e
+pub has-number : (numbers : List ℕ) (run p e : ℕ) (r : Run) → r ≡ record { label = run; bins = slice numbers p e } → head r < pastBin → p < e
 unfolding head headOf
 has-number numbers run p e r f b =
     ⊎-elim
     (λ (q : p < e). q)
     (λ (q : e ≤ p).
     let z : e - p ≡ 0 = omega arith in
-    let w : headOf (from-place numbers p e) ≡ pastBin = rw z in
-    let y : headOf (r .bins) ≡ headOf (from-place numbers p e) = ap (λ (x : Run). headOf (x .bins)) f in
+    let w : headOf (slice numbers p e) ≡ pastBin = rw z in
+    let y : headOf (r .bins) ≡ headOf (slice numbers p e) = ap (λ (x : Run). headOf (x .bins)) f in
     absurd (omega arith))
     (lt-or-le p e)
 

@@ -14,7 +14,8 @@ use Rattle.model.proofs.Count.{total-map, total-eq, total-cons}
 use Rattle.model.proofs.Masks.{Labelled, labelled-nil, labelled-cons, label-first, label-rest, label-least}
 use Rattle.model.proofs.Tests.{both, lt-or-le, eq-or-ne, true-false}
 use Rattle.order.proofs.Row.{sum-insert, ordered-insert}
-use Rattle.order.specs.Row.{Ordered, insertKey, sumOf}
+use Rattle.model.proofs.Heads.{Ordered}
+use Rattle.order.specs.Row.{insertKey, sumOf}
 use Rattle.walk.specs.State.{runsAt, keyOf, weigh, putHead, InOrder, Inside, notNamed, Holds, Lacks}
 
 -- the run where there is none

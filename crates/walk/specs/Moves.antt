@@ -9,16 +9,12 @@ use lib.Dec.{ltb, eqb}
 use Rattle.model.specs.Compared.{probesOf}
 use mathlib.Core.Option.{none}
 use Rattle.model.specs.Refusals.{fallsFrom, lastEnd}
-use Rattle.model.specs.Runs.{Run, pastBin, names}
+use Rattle.model.specs.Runs.{Run, slice, pastBin, names}
 use Rattle.model.specs.Walk.{Search, headOf, head, seek, searches, searched, movedOn}
-use Rattle.order.specs.Row.{Ordered}
+use Rattle.model.proofs.Heads.{Ordered}
 use Rattle.walk.specs.State.{putHead, runsAt, Inside, Holds, Lacks}
 use Rattle.walk.specs.declared.Moved.{Moved}
 use Rattle.walk.specs.declared.Moved.the-variants.{On, Spent}
-
--- the numbers of a run from a place on
-abbrev pub from-place : List ℕ → ℕ → ℕ → List ℕ
-from-place numbers place end = take (end - place) (drop place numbers)
 
 -- there is room for one key more in front of a row
 pub record Room (numbers : List ℕ) (place end : ℕ) (keys : List ℕ) (start : ℕ) : Type 0 where
@@ -47,17 +43,17 @@ pub record Movable (numbers ends positions keys : List ℕ) (start run : ℕ) : 
 pub record RunMoved (numbers positions keys : List ℕ) (start run q e : ℕ) (positions′ keys′ : List ℕ) (next : ℕ) : Type 0 where
   pub positions-are : positions′ ≡ set positions run q
   pub order : q ≤ e
-  pub put : PutBack (headOf (from-place numbers q e)) run keys start keys′ next
+  pub put : PutBack (headOf (slice numbers q e)) run keys start keys′ next
 
 -- one run searched with so many probes left
 abbrev pub SearchedRun : List ℕ → List ℕ → List ℕ → List ℕ → ℕ → ℕ → ℕ → ℕ → List ℕ → List ℕ → Moved → Type 0
 SearchedRun numbers ends positions keys start run v left positions′ keys′ (On next after) =
     let p = getD positions run 0 in
     let e = getD ends run 0 in
-    let f = seek v (from-place numbers p e) in
+    let f = seek v (slice numbers p e) in
     (after + (f .doublings + f .halvings) ≡ left) × RunMoved numbers positions keys start run (p + f .place) e positions′ keys′ next
 SearchedRun numbers ends positions keys start run v left positions′ keys′ Spent =
-    let f = seek v (from-place numbers (getD positions run 0) (getD ends run 0)) in
+    let f = seek v (slice numbers (getD positions run 0) (getD ends run 0)) in
     left < f .doublings + f .halvings
 
 -- all runs searched whose head is below v, with so many probes left

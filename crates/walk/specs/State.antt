@@ -6,16 +6,17 @@ use mathlib.Core.Path.{_≡_}
 use lib.Dec.{ltb}
 use lib.ListN.{length, getD, take, drop}
 use Rattle.model.proofs.From.{Rise}
-use Rattle.model.specs.Runs.{Run, pastBin, total, names}
+use Rattle.model.specs.Runs.{Run, slice, pastBin, total, names}
 use Rattle.model.specs.Walk.{head, headOf}
-use Rattle.order.specs.Row.{Ordered, insertKey, sumOf}
+use Rattle.model.proofs.Heads.{Ordered}
+use Rattle.order.specs.Row.{insertKey, sumOf}
 
 -- the runs from label i on, each at its position
 unfoldable pub runsAt : ℕ → List ℕ → List ℕ → List ℕ → List Run
 runsAt i numbers [] ends = []
 runsAt i numbers (p ∷ positions) [] = []
 runsAt i numbers (p ∷ positions) (e ∷ ends) =
-    record { label = i; bins = take (e - p) (drop p numbers) } ∷ runsAt (suc i) numbers positions ends
+    record { label = i; bins = slice numbers p e } ∷ runsAt (suc i) numbers positions ends
 
 -- a run's key, and what a sum over keys adds for it: nothing where the run has no head
 unfoldable pub keyOf : Run → ℕ

@@ -1,5 +1,7 @@
 //! Inputs of exactly 1,048,576 numbers, equal in every run of the program.
 
+use reference::testing::{lay_out, Random};
+
 /// The numbers of every input.
 pub const NUMBERS: usize = 1_048_576;
 
@@ -11,42 +13,19 @@ pub struct Input {
     pub ends: Vec<u32>,
 }
 
-/// A splitmix64 generator.
-struct Random(u64);
-
-impl Random {
-    fn bits(&mut self) -> u64 {
-        self.0 = self.0.wrapping_add(0x9e37_79b9_7f4a_7c15);
-        let mut z = self.0;
-        z = (z ^ (z >> 30)).wrapping_mul(0xbf58_476d_1ce4_e5b9);
-        z = (z ^ (z >> 27)).wrapping_mul(0x94d0_49bb_1331_11eb);
-        z ^ (z >> 31)
-    }
-
-    fn below(&mut self, limit: u64) -> u64 {
-        self.bits() % limit
-    }
-}
-
-fn lay_out(runs: Vec<Vec<u32>>) -> Input {
-    let mut ends = Vec::new();
-    let mut length = 0;
-    for run in &runs {
-        length += run.len();
-        ends.push(length as u32);
-    }
-    let numbers = runs.concat();
+fn input(runs: Vec<Vec<u32>>) -> Input {
+    let (numbers, ends) = lay_out(&runs);
     assert_eq!(numbers.len(), NUMBERS);
     Input { numbers, ends }
 }
 
 /// `count` numbers from `start` on, each above the one before by `step`.
-fn rising(start: u32, count: usize, mut step: impl FnMut() -> u64) -> Vec<u32> {
+fn rising(start: u32, count: usize, mut step: impl FnMut() -> usize) -> Vec<u32> {
     let mut next = u64::from(start);
     let mut run = Vec::with_capacity(count);
     for _ in 0..count {
         run.push(u32::try_from(next).expect("a 32-bit number"));
-        next += step();
+        next += step() as u64;
     }
     run
 }
@@ -56,24 +35,24 @@ pub fn dense(k: usize) -> Input {
     let mut random = Random(1);
     let mut step = || {
         let mut step = 1;
-        while random.below(10) == 0 {
+        while random.one_in(10) {
             step += 1;
         }
         step
     };
     let run = |_| rising(0, NUMBERS / k, &mut step);
-    lay_out((0..k).map(run).collect())
+    input((0..k).map(run).collect())
 }
 
 /// Random numbers from a range 64 times as wide as there are numbers.
 pub fn sparse(k: usize) -> Input {
     let mut random = Random(2);
-    let widest = 2 * 64 * k as u64 - 1;
+    let widest = 2 * 64 * k - 1;
     let run = |_| {
         let start = random.below(widest) as u32;
         rising(start, NUMBERS / k, || 1 + random.below(widest))
     };
-    lay_out((0..k).map(run).collect())
+    input((0..k).map(run).collect())
 }
 
 /// Each number of one range is in one run, or in two in one case out of
@@ -86,16 +65,16 @@ pub fn nearly_disjoint(k: usize) -> Input {
         if left == 0 {
             break;
         }
-        let i = random.below(k as u64) as usize;
+        let i = random.below(k);
         runs[i].push(x);
         left -= 1;
-        if left > 0 && random.below(8) == 0 {
-            let other = 1 + random.below(k as u64 - 1) as usize;
+        if left > 0 && random.one_in(8) {
+            let other = 1 + random.below(k - 1);
             runs[(i + other) % k].push(x);
             left -= 1;
         }
     }
-    lay_out(runs)
+    input(runs)
 }
 
 /// Each run has a range of its own, the first run the highest, so that the
@@ -107,7 +86,7 @@ pub fn blocks(k: usize) -> Input {
         let start = (k - 1 - i) * 4 * length;
         rising(start as u32, length, || 1 + random.below(3))
     };
-    lay_out((0..k).map(run).collect())
+    input((0..k).map(run).collect())
 }
 
 /// 1,024 numbers against all others, over the same range.
@@ -115,7 +94,7 @@ pub fn skewed() -> Input {
     let mut random = Random(5);
     let few = 1_024;
     let long = rising(0, NUMBERS - few, || 1 + random.below(3));
-    let widest = 2 * (2 * NUMBERS / few) as u64 - 1;
+    let widest = 2 * (2 * NUMBERS / few) - 1;
     let short = rising(0, few, || 1 + random.below(widest));
-    lay_out(vec![short, long])
+    input(vec![short, long])
 }

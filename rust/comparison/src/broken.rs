@@ -1,7 +1,6 @@
 //! Rows and thresholds that the first checks refuse.
 
-use crate::random::Random;
-use crate::M;
+use reference::testing::{Random, M};
 
 /// Returns a threshold: mostly good, at times 0, one above `k` or far too
 /// large.

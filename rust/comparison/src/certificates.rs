@@ -1,7 +1,6 @@
 //! Certificates: true ones of many forms, and damaged ones.
 
-use crate::random::Random;
-use crate::M;
+use reference::testing::{Random, M};
 use reference::Part;
 
 /// Runs and a threshold that pass the first checks.

@@ -10,28 +10,13 @@
 pub mod broken;
 pub mod certificates;
 pub mod question;
-pub mod random;
 pub mod shapes;
 
 use std::fmt;
 
-/// The largest number of a run.
-pub const M: u32 = u32::MAX;
-
-/// The row of numbers and the row of ends of some runs.
-pub fn lay_out<R: AsRef<[u32]>>(runs: &[R]) -> (Vec<u32>, Vec<u32>) {
-    let mut numbers = Vec::new();
-    let mut ends = Vec::new();
-    for run in runs {
-        numbers.extend_from_slice(run.as_ref());
-        ends.push(numbers.len() as u32);
-    }
-    (numbers, ends)
-}
-
-/// The runs as slices.
-pub fn slices<R: AsRef<[u32]>>(runs: &[R]) -> Vec<&[u32]> {
-    runs.iter().map(|run| run.as_ref()).collect()
+/// The seeds of `count` cases. Different groups have different seeds.
+pub fn seeds(group: u64, count: u64) -> impl Iterator<Item = u64> {
+    (0..count).map(move |case| (group << 32) + case)
 }
 
 /// Prints the first numbers of a row and the length of it.

@@ -1,8 +1,8 @@
 //! One query asked of both sides, with all that they return and write.
 
-use crate::random::Random;
 use crate::Row;
 use quorum::{Counts, Outcome, Refusal};
+use reference::testing::Random;
 use std::fmt;
 
 /// Places before and after a lent buffer that must not change.

@@ -1,7 +1,6 @@
 //! Random runs of several shapes.
 
-use crate::random::Random;
-use crate::M;
+use reference::testing::{Random, M};
 
 /// How the numbers of the runs lie to one another.
 #[derive(Clone, Copy, Debug)]

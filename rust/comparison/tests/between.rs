@@ -1,8 +1,8 @@
 //! The numbers of one list between two numbers.
 
-use comparison::random::{seeds, Random};
 use comparison::shapes::any_runs;
-use comparison::{Row, M};
+use comparison::{seeds, Row};
+use reference::testing::{Random, M};
 
 /// Compares the part of the list on both sides. Where an empty part lies is
 /// free; any other lies at one place only.

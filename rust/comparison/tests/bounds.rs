@@ -2,10 +2,10 @@
 //! true certificate, found without the walk, and `probe_bound`.
 
 use comparison::question::{whole, Comparer, Limits, Question};
-use comparison::random::{seeds, Random};
+use comparison::seeds;
 use comparison::shapes::any_runs;
-use comparison::{lay_out, slices, M};
 use quorum::{probe_bound, Refusal};
+use reference::testing::{lay_out, slices, Random, M};
 use reference::{digits, fewest_parts, is_true, trace, Outcome};
 
 /// Compares one walk with the fewest parts possible, at every threshold.
@@ -62,34 +62,29 @@ fn within_the_bound(seed: u64, runs: &[Vec<u32>]) {
     assert_eq!(comparer.seen[7], 0, "seed {seed}");
 }
 
-#[test]
-fn small_walks() {
-    for seed in seeds(21, 5_000) {
+/// Compares walks of random runs.
+fn random_walks(group: u64, cases: u64, [fewest, most]: [usize; 2], length: usize) {
+    for seed in seeds(group, cases) {
         let mut random = Random(seed);
-        let k = random.from_to(1, 6);
-        let runs = any_runs(&mut random, k, 7);
+        let k = random.from_to(fewest, most);
+        let runs = any_runs(&mut random, k, length);
         within_the_bound(seed, &runs);
     }
+}
+
+#[test]
+fn small_walks() {
+    random_walks(21, 5_000, [1, 6], 7);
 }
 
 #[test]
 fn two_or_three_longer_runs() {
-    for seed in seeds(22, 150) {
-        let mut random = Random(seed);
-        let k = random.from_to(1, 3);
-        let runs = any_runs(&mut random, k, 40);
-        within_the_bound(seed, &runs);
-    }
+    random_walks(22, 150, [1, 3], 40);
 }
 
 #[test]
 fn many_short_runs() {
-    for seed in seeds(23, 20) {
-        let mut random = Random(seed);
-        let k = random.from_to(10, 64);
-        let runs = any_runs(&mut random, k, 2);
-        within_the_bound(seed, &runs);
-    }
+    random_walks(23, 20, [10, 64], 2);
 }
 
 /// What the bound should be.

@@ -3,10 +3,10 @@
 use comparison::broken::{any_threshold, break_rows};
 use comparison::certificates::{damage_bytes, Task};
 use comparison::question::Question;
-use comparison::random::{seeds, Random};
+use comparison::seeds;
 use comparison::shapes::{any_runs, shaped_runs, Shape, SHAPES};
-use comparison::{lay_out, slices, M};
 use quorum::{Refusal, Verdict};
+use reference::testing::{gap, hit, lay_out, slices, Random, M, THREE_RUNS};
 use reference::{decode, encode, is_true, trace, Part};
 
 /// How many certificates were seen with each verdict; 0 stands for true.
@@ -147,9 +147,8 @@ fn long_runs() {
 /// The true certificate of three runs with each byte set to each value.
 #[test]
 fn every_byte() {
-    let runs: [&[u32]; 3] = [&[2, 5, 9], &[5, 7, 9, 12], &[1, 9]];
     let task = Task {
-        runs: &runs,
+        runs: &THREE_RUNS,
         threshold: 2,
     };
     let whole = encode(&walks_own(task));
@@ -242,27 +241,15 @@ fn every_mask() {
             let all = 7;
             for value in [6, 7, 8, 9] {
                 let parts = [
-                    Part::Gap {
-                        first: 0,
-                        last: value - 1,
-                        mask: all,
-                    },
-                    Part::Answer { value, mask },
-                    Part::Gap {
-                        first: value + 1,
-                        last: M,
-                        mask,
-                    },
+                    gap(0, value - 1, all),
+                    hit(value, mask),
+                    gap(value + 1, M, mask),
                 ];
                 for kept in 1..=3 {
                     seen.compare_with_truth(0, task, &encode(&parts[..kept]));
                 }
-                let gap = Part::Gap {
-                    first: 0,
-                    last: value,
-                    mask,
-                };
-                seen.compare_with_truth(0, task, &encode(&[gap, parts[2]]));
+                let joined = [gap(0, value, mask), parts[2]];
+                seen.compare_with_truth(0, task, &encode(&joined));
             }
         }
     }

@@ -3,9 +3,9 @@
 
 use comparison::broken::{any_threshold, break_rows};
 use comparison::question::{whole, Comparer, Limits, Question};
-use comparison::random::{seeds, Random};
+use comparison::seeds;
 use comparison::shapes::{any_runs, shaped_runs, SHAPES};
-use comparison::{lay_out, M};
+use reference::testing::{lay_out, small_inputs, Random, M};
 
 /// Asks about random runs with limits of every kind.
 fn compare_random(group: u64, cases: u64, runs: [usize; 2], length: usize) -> Comparer {
@@ -116,14 +116,8 @@ fn every_limit() {
 #[test]
 fn all_small_inputs() {
     let mut comparer = Comparer::new();
-    let bins = [0, 1, M - 1, M];
-    let subset = |chosen: usize| -> Vec<u32> {
-        let is_chosen = |i: &usize| chosen >> i & 1 == 1;
-        (0..4).filter(is_chosen).map(|i| bins[i]).collect()
-    };
     for k in 1..=3 {
-        for choice in 0..16_usize.pow(k) {
-            let runs: Vec<Vec<u32>> = (0..k).map(|i| subset(choice >> (4 * i) & 15)).collect();
+        for (seed, runs) in (0..).zip(small_inputs(k)) {
             let (numbers, ends) = lay_out(&runs);
             for threshold in 1..=k {
                 let question = Question {
@@ -131,7 +125,6 @@ fn all_small_inputs() {
                     ends: &ends,
                     threshold,
                 };
-                let seed = choice as u64;
                 comparer.compare_limits(seed, &mut Random(seed), question);
             }
         }

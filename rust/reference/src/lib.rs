@@ -2,8 +2,8 @@
 //! certificate": which numbers do at least `t` of `k` rising lists hold?
 //!
 //! It is written from the document alone, to be compared with other
-//! implementations. Every function is total: it never panics, whatever the
-//! input.
+//! implementations. Every function outside [`testing`] is total: it never
+//! panics, whatever the input.
 //!
 //! * [`query()`] walks the runs and writes answers and a certificate.
 //! * [`check()`] decides whether a certificate is true, and names the first
@@ -12,6 +12,7 @@
 //! * [`hits()`] is the text form of the program of that name.
 //! * [`trace()`], [`is_true`], [`fewest_parts()`] and [`probe_bound`] serve tests:
 //!   they give the whole walk and the definitions it is compared with.
+//! * [`testing`] is what the tests of this crate and the comparison share.
 
 #![forbid(unsafe_code)]
 #![warn(missing_docs)]
@@ -26,6 +27,7 @@ mod heads;
 pub mod hits;
 mod mask;
 pub mod query;
+pub mod testing;
 pub mod trace;
 mod walk;
 

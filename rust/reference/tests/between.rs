@@ -2,8 +2,9 @@
 
 mod common;
 
-use common::{Random, M};
+use common::any_runs;
 use reference::between;
+use reference::testing::{Random, M};
 
 /// Compares the part of the list with a filter over it.
 fn agrees(list: &[u32], first: u32, last: u32) {
@@ -57,13 +58,13 @@ fn no_limit_on_the_length() {
 fn random_lists() {
     let mut random = Random(1);
     for _ in 0..20_000 {
-        let mut list = random.runs(1, 12).remove(0);
+        let mut list = any_runs(&mut random, 1, 12).remove(0);
         if random.one_in(8) && list.len() > 1 {
             let i = random.below(list.len());
-            list[i] = random.next() as u32;
+            list[i] = random.word();
         }
         let mut pick = || match random.below(3) {
-            0 => random.next() as u32,
+            0 => random.word(),
             1 => random.below(40) as u32,
             _ if list.is_empty() => M,
             _ => list[random.below(list.len())]

@@ -1,31 +1,15 @@
 //! The order and the places of the refusals of the checker.
 
-mod common;
-
-use common::{gap, hit, lay_out, slices, M};
+use reference::testing::{gap, hit, lay_out, slices, M, THREE_RUNS, THREE_RUNS_PARTS};
 use reference::{check, decode, encode, is_true, Part, Verdict};
 
-/// Runs {2, 5, 9}, {5, 7, 9, 12} and {1, 9}.
-const RUNS: [&[u32]; 3] = [&[2, 5, 9], &[5, 7, 9, 12], &[1, 9]];
-
-/// Offsets of the tags in the true certificate of these runs, threshold 2.
+/// Offsets of the tags in the true certificate of the three runs, threshold 2.
 const OFFSETS: [u64; 7] = [0, 19, 38, 53, 72, 87, 106];
 
-fn true_parts() -> Vec<Part> {
-    vec![
-        gap(0, 1, 3),
-        gap(2, 4, 6),
-        hit(5, 3),
-        gap(6, 8, 5),
-        hit(9, 7),
-        gap(10, M, 5),
-    ]
-}
-
 fn verdict(bytes: &[u8]) -> Verdict {
-    let (numbers, ends) = lay_out(&RUNS);
+    let (numbers, ends) = lay_out(&THREE_RUNS);
     let verdict = check(&numbers, &ends, 2, bytes);
-    let truth = decode(bytes).is_some_and(|parts| is_true(&slices(&RUNS), 2, &parts));
+    let truth = decode(bytes).is_some_and(|parts| is_true(&slices(&THREE_RUNS), 2, &parts));
     assert_eq!(truth, matches!(verdict, Verdict::Valid { .. }));
     verdict
 }
@@ -40,14 +24,14 @@ fn valid(answers: u64, parts: u64) -> Verdict {
 
 /// The verdict on the true parts with one of them replaced.
 fn with_part(i: usize, part: Part) -> Verdict {
-    let mut parts = true_parts();
+    let mut parts = THREE_RUNS_PARTS;
     parts[i] = part;
     verdict(&encode(&parts))
 }
 
 #[test]
 fn the_true_certificate() {
-    assert_eq!(verdict(&encode(&true_parts())), valid(2, 6));
+    assert_eq!(verdict(&encode(&THREE_RUNS_PARTS)), valid(2, 6));
 }
 
 #[test]
@@ -68,7 +52,7 @@ fn first_checks_come_before_the_fields() {
 
 #[test]
 fn refusal_8_where_a_field_is_cut_short() {
-    let bytes = encode(&true_parts());
+    let bytes = encode(&THREE_RUNS_PARTS);
     for length in 0..bytes.len() {
         let length64 = length as u64;
         let expected = match OFFSETS.iter().rposition(|&offset| offset <= length64) {
@@ -85,12 +69,12 @@ fn refusal_8_where_a_field_is_cut_short() {
 fn refusal_8_where_a_tag_is_unknown() {
     for (i, &offset) in OFFSETS[..6].iter().enumerate() {
         for tag in [0, 3, 4, 128, 255] {
-            let mut bytes = encode(&true_parts());
+            let mut bytes = encode(&THREE_RUNS_PARTS);
             bytes[offset as usize] = tag;
             assert_eq!(verdict(&bytes), invalid(8, offset), "field {i}");
         }
         // The other tag is known, but the length is not its length.
-        let mut bytes = encode(&true_parts());
+        let mut bytes = encode(&THREE_RUNS_PARTS);
         bytes[offset as usize] = 3 - bytes[offset as usize];
         assert_eq!(verdict(&bytes), invalid(8, offset), "field {i}");
     }
@@ -100,7 +84,7 @@ fn refusal_8_where_a_tag_is_unknown() {
 fn refusal_8_where_a_length_is_not_the_tags() {
     for offset in OFFSETS[..6].iter().map(|&offset| offset as usize) {
         for length in [0, 1, 11, 13, 15, 17, 12 + 256, 16 + 256, 0x1000, 65535_u16] {
-            let mut bytes = encode(&true_parts());
+            let mut bytes = encode(&THREE_RUNS_PARTS);
             bytes[offset + 1..offset + 3].copy_from_slice(&length.to_le_bytes());
             assert_eq!(verdict(&bytes), invalid(8, offset as u64));
         }
@@ -126,11 +110,11 @@ fn refusal_9_where_the_first_is_not_the_next_uncovered_bin() {
     assert_eq!(with_part(2, hit(4, 3)), invalid(9, 38));
     assert_eq!(with_part(3, gap(0, 8, 5)), invalid(9, 53));
     // A part twice.
-    let mut parts = true_parts();
+    let mut parts = THREE_RUNS_PARTS.to_vec();
     parts.insert(2, gap(2, 4, 6));
     assert_eq!(verdict(&encode(&parts)), invalid(9, 38));
     // A part left out.
-    let mut parts = true_parts();
+    let mut parts = THREE_RUNS_PARTS.to_vec();
     parts.remove(2);
     assert_eq!(verdict(&encode(&parts)), invalid(9, 38));
 }
@@ -145,7 +129,7 @@ fn refusal_9_where_the_last_is_below_the_first() {
 
 #[test]
 fn refusal_9_where_nothing_is_uncovered() {
-    let whole = encode(&true_parts());
+    let whole = encode(&THREE_RUNS_PARTS);
     for part in [
         gap(0, M, 7),
         gap(0, 0, 7),
@@ -164,7 +148,7 @@ fn refusal_9_where_nothing_is_uncovered() {
 
 #[test]
 fn refusal_8_after_the_line_is_covered() {
-    let whole = encode(&true_parts());
+    let whole = encode(&THREE_RUNS_PARTS);
     let more: [&[u8]; 6] = [
         &[0],
         &[1],
@@ -186,8 +170,8 @@ fn refusal_9_at_the_end() {
     assert_eq!(verdict(&[]), invalid(9, 0));
     assert_eq!(with_part(5, gap(10, M - 1, 5)), invalid(9, 106));
     assert_eq!(with_part(5, gap(10, 10, 5)), invalid(9, 106));
-    assert_eq!(verdict(&encode(&true_parts()[..5])), invalid(9, 87));
-    assert_eq!(verdict(&encode(&true_parts()[..1])), invalid(9, 19));
+    assert_eq!(verdict(&encode(&THREE_RUNS_PARTS[..5])), invalid(9, 87));
+    assert_eq!(verdict(&encode(&THREE_RUNS_PARTS[..1])), invalid(9, 19));
 }
 
 #[test]
@@ -207,7 +191,7 @@ fn refusal_10_where_a_mask_names_too_few() {
         assert_eq!(with_part(2, hit(5, mask)), invalid(10, 38));
     }
     // With t = 3 a gap needs one run and an answer three.
-    let (numbers, ends) = lay_out(&RUNS);
+    let (numbers, ends) = lay_out(&THREE_RUNS);
     let verdict = |parts: &[Part]| check(&numbers, &ends, 3, &encode(parts));
     let parts = [gap(0, 4, 2), gap(5, 8, 4), hit(9, 7), gap(10, M, 1)];
     assert_eq!(verdict(&parts), valid(1, 4));
@@ -254,16 +238,7 @@ fn refusal_11_where_a_named_run_contradicts() {
     assert_eq!(with_part(2, hit(5, 5)), invalid(11, 38));
     assert_eq!(with_part(2, hit(5, 7)), invalid(11, 38));
     // A run that is at its end lacks every number.
-    let parts = [
-        gap(0, 1, 3),
-        gap(2, 4, 6),
-        hit(5, 3),
-        gap(6, 8, 5),
-        hit(9, 7),
-    ];
-    let mut parts = parts.to_vec();
-    parts.push(hit(10, 5));
-    assert_eq!(verdict(&encode(&parts)), invalid(11, 87));
+    assert_eq!(with_part(5, hit(10, 5)), invalid(11, 87));
 }
 
 #[test]
@@ -285,7 +260,7 @@ fn the_order_at_one_field() {
 #[test]
 fn each_field_is_settled_before_the_next() {
     let bad_11 = gap(2, 4, 3);
-    let mut parts = true_parts();
+    let mut parts = THREE_RUNS_PARTS.to_vec();
     parts[1] = bad_11;
     parts[2] = hit(6, 0);
     assert_eq!(verdict(&encode(&parts)), invalid(11, 19));

@@ -2,7 +2,8 @@
 
 mod common;
 
-use common::{PlainWalk, Random, M};
+use common::{any_runs, any_threshold, PlainWalk};
+use reference::testing::{Random, M};
 use reference::{hits, Part};
 
 fn prints(input: impl AsRef<[u8]>, expected: &str) {
@@ -315,8 +316,8 @@ fn expected_output(runs: &[Vec<u32>], threshold: u32, allowance: u32) -> String 
 fn random_queries() {
     let mut random = Random(2);
     for _ in 0..3_000 {
-        let runs = random.runs(8, 20);
-        let threshold = random.threshold(&runs);
+        let runs = any_runs(&mut random, 8, 20);
+        let threshold = any_threshold(&mut random, &runs);
         let allowance = random.below(60) as u32;
         let mut input = format!("{threshold} {allowance}\n");
         for run in &runs {

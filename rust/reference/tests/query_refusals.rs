@@ -2,11 +2,9 @@
 
 mod common;
 
-use common::{gap, hit, lay_out, M};
+use common::{ask, FILLER, FILLER_BYTE};
+use reference::testing::{accepted, gap, hit, refused, M};
 use reference::{decode, encode, first_checks, query, trace, Outcome, Refusal, MAX_NUMBERS};
-
-const FILLER: u32 = 0xabab_abab;
-const FILLER_BYTE: u8 = 0xab;
 
 /// Asks with large buffers and expects a refusal of the first checks, with
 /// nothing written.
@@ -14,16 +12,7 @@ fn refused_first(numbers: &[u32], ends: &[u32], threshold: u32, number: u8, plac
     let mut answers = [FILLER; 8];
     let mut certificate = [FILLER_BYTE; 200];
     let outcome = query(numbers, ends, threshold, M, &mut answers, &mut certificate);
-    assert_eq!(
-        outcome,
-        Outcome::Refused {
-            number,
-            place,
-            answers: 0,
-            bytes: 0,
-            probes: 0,
-        }
-    );
+    assert_eq!(outcome, refused(number, place, 0, 0, 0));
     assert_eq!(answers, [FILLER; 8]);
     assert_eq!(certificate, [FILLER_BYTE; 200]);
     let refusal = Refusal { number, place };
@@ -33,62 +22,6 @@ fn refused_first(numbers: &[u32], ends: &[u32], threshold: u32, number: u8, plac
     // A walk refusal cannot come first.
     let outcome = query(numbers, ends, threshold, 0, &mut [], &mut []);
     assert!(matches!(outcome, Outcome::Refused { number: n, .. } if n == number));
-}
-
-/// Asks with buffers of the given sizes; returns the outcome, the answers and
-/// the certificate bytes written, after a look at what lies behind them.
-fn ask<R: AsRef<[u32]>>(
-    runs: &[R],
-    threshold: u32,
-    allowance: u32,
-    answer_room: usize,
-    byte_room: usize,
-) -> (Outcome, Vec<u32>, Vec<u8>) {
-    let (numbers, ends) = lay_out(runs);
-    let mut answers = vec![FILLER; answer_room];
-    let mut certificate = vec![FILLER_BYTE; byte_room];
-    let outcome = query(
-        &numbers,
-        &ends,
-        threshold,
-        allowance,
-        &mut answers,
-        &mut certificate,
-    );
-    let (Outcome::Accepted {
-        answers: count,
-        bytes,
-        ..
-    }
-    | Outcome::Refused {
-        answers: count,
-        bytes,
-        ..
-    }) = outcome;
-    let later_answers = answers.split_off(count as usize);
-    let later_bytes = certificate.split_off(bytes as usize);
-    assert!(later_answers.iter().all(|&x| x == FILLER));
-    assert!(later_bytes.iter().all(|&x| x == FILLER_BYTE));
-    (outcome, answers, certificate)
-}
-
-fn refused(number: u8, place: u64, answers: u64, bytes: u64, probes: u64) -> Outcome {
-    Outcome::Refused {
-        number,
-        place,
-        answers,
-        bytes,
-        probes,
-    }
-}
-
-fn accepted(answers: u64, parts: u64, bytes: u64, probes: u64) -> Outcome {
-    Outcome::Accepted {
-        answers,
-        parts,
-        bytes,
-        probes,
-    }
 }
 
 #[test]

@@ -4,7 +4,8 @@
 
 mod common;
 
-use common::{counted_answers, gap, hit, lay_out, slices, PlainWalk, Random, M};
+use common::{any_runs, any_threshold, counted_answers, PlainWalk};
+use reference::testing::{accepted, gap, hit, lay_out, slices, small_inputs, Random, M};
 use reference::{
     check, decode, digits, encode, fewest_parts, is_true, probe_bound, query, trace, Outcome, Part,
     Verdict,
@@ -52,14 +53,10 @@ fn whole_walk(runs: &[Vec<u32>], threshold: u32, size: Size) {
         &mut certificate,
     );
     let counts = (expected_answers.len() as u64, parts.len() as u64);
+    let probes = plain.probes();
     assert_eq!(
         outcome,
-        Outcome::Accepted {
-            answers: counts.0,
-            parts: counts.1,
-            bytes: bytes.len() as u64,
-            probes: plain.probes(),
-        }
+        accepted(counts.0, counts.1, bytes.len() as u64, probes)
     );
     assert_eq!(answers, expected_answers, "{}", context());
     assert_eq!(certificate, bytes, "{}", context());
@@ -78,16 +75,8 @@ fn whole_walk(runs: &[Vec<u32>], threshold: u32, size: Size) {
 /// All runs over four bins, two at each end of the line, up to three runs.
 #[test]
 fn all_small_inputs() {
-    let bins = [0, 1, M - 1, M];
-    let subset = |chosen: usize| -> Vec<u32> {
-        (0..4)
-            .filter(|i| chosen >> i & 1 == 1)
-            .map(|i| bins[i])
-            .collect()
-    };
     for k in 1..=3 {
-        for choice in 0..16_usize.pow(k) {
-            let runs: Vec<Vec<u32>> = (0..k).map(|i| subset(choice >> (4 * i) & 15)).collect();
+        for runs in small_inputs(k) {
             for threshold in 1..=k {
                 whole_walk(&runs, threshold, Size::Small);
             }
@@ -95,53 +84,83 @@ fn all_small_inputs() {
     }
 }
 
-#[test]
-fn random_small_walks() {
-    let mut random = Random(11);
-    for _ in 0..60_000 {
-        let runs = random.runs(6, 8);
-        let threshold = random.threshold(&runs);
-        whole_walk(&runs, threshold, Size::Small);
+/// Compares `count` walks of random runs.
+fn random_walks(
+    random: &mut Random,
+    count: usize,
+    size: Size,
+    runs: impl Fn(&mut Random) -> Vec<Vec<u32>>,
+) {
+    for _ in 0..count {
+        let runs = runs(random);
+        let threshold = any_threshold(random, &runs);
+        whole_walk(&runs, threshold, size);
     }
 }
 
 #[test]
+fn random_small_walks() {
+    let runs = |random: &mut Random| any_runs(random, 6, 8);
+    random_walks(&mut Random(11), 60_000, Size::Small, runs);
+}
+
+#[test]
 fn random_medium_walks() {
-    let mut random = Random(12);
-    for _ in 0..150 {
-        let runs = random.runs(5, 40);
-        let threshold = random.threshold(&runs);
-        whole_walk(&runs, threshold, Size::Small);
-    }
+    let runs = |random: &mut Random| any_runs(random, 5, 40);
+    random_walks(&mut Random(12), 150, Size::Small, runs);
 }
 
 #[test]
 fn random_large_walks() {
     let mut random = Random(13);
-    for _ in 0..150 {
-        let runs = random.runs(64, 150);
-        let threshold = random.threshold(&runs);
-        whole_walk(&runs, threshold, Size::Large);
-    }
-    for _ in 0..50 {
-        let mut runs = random.runs(2, 5_000);
-        runs.extend(random.runs(3, 20));
-        let threshold = random.threshold(&runs);
-        whole_walk(&runs, threshold, Size::Large);
-    }
+    let many = |random: &mut Random| any_runs(random, 64, 150);
+    random_walks(&mut random, 150, Size::Large, many);
+    let long = |random: &mut Random| {
+        let mut runs = any_runs(random, 2, 5_000);
+        runs.extend(any_runs(random, 3, 20));
+        runs
+    };
+    random_walks(&mut random, 50, Size::Large, long);
 }
 
 /// A query on lent buffers filled with noise, with all of their contents.
-struct Stopping<'a> {
-    runs: &'a [Vec<u32>],
+struct Stopping {
+    runs: Vec<Vec<u32>>,
     threshold: u32,
     plain: PlainWalk,
+    /// What the whole walk needs.
+    probes: u32,
+    answers: usize,
+    bytes: usize,
     noise: Vec<u8>,
 }
 
-impl Stopping<'_> {
+impl Stopping {
+    /// Random runs, with no noise yet.
+    fn new(random: &mut Random, most_runs: usize, most_numbers: usize) -> Self {
+        let runs = any_runs(random, most_runs, most_numbers);
+        let threshold = any_threshold(random, &runs);
+        let plain = PlainWalk::new(&runs, threshold);
+        Stopping {
+            probes: plain.probes() as u32,
+            answers: counted_answers(&runs, threshold).len(),
+            bytes: encode(&plain.parts()).len(),
+            noise: Vec::new(),
+            runs,
+            threshold,
+            plain,
+        }
+    }
+
+    /// Makes noise for `more` places than the whole certificate has.
+    fn make_noise(&mut self, random: &mut Random, more: usize) {
+        self.noise = (0..self.bytes + more)
+            .map(|_| random.bits() as u8)
+            .collect();
+    }
+
     fn compare(&self, allowance: u32, answer_room: usize, byte_room: usize) {
-        let (numbers, ends) = lay_out(self.runs);
+        let (numbers, ends) = lay_out(&self.runs);
         let (outcome, written, bytes) = self.plain.stopped(allowance, answer_room, byte_room);
         let mut answers: Vec<u32> = (0..answer_room).map(|i| self.noise[i].into()).collect();
         let mut certificate: Vec<u8> = self.noise[..byte_room].to_vec();
@@ -170,7 +189,7 @@ impl Stopping<'_> {
         // What stands is a beginning of the whole.
         let parts = self.plain.parts();
         assert!(encode(&parts).starts_with(&bytes));
-        let whole = counted_answers(self.runs, self.threshold);
+        let whole = counted_answers(&self.runs, self.threshold);
         assert!(whole.starts_with(&written));
     }
 }
@@ -180,21 +199,11 @@ impl Stopping<'_> {
 fn stopping_early_everywhere() {
     let mut random = Random(14);
     for _ in 0..100 {
-        let runs = random.runs(4, 5);
-        let threshold = random.threshold(&runs);
-        let plain = PlainWalk::new(&runs, threshold);
-        let probes = plain.probes() as u32;
-        let bytes = encode(&plain.parts()).len();
-        let answers = counted_answers(&runs, threshold).len();
-        let stopping = Stopping {
-            runs: &runs,
-            threshold,
-            plain,
-            noise: (0..bytes + 40).map(|_| random.next() as u8).collect(),
-        };
-        for allowance in 0..=probes + 1 {
-            for answer_room in 0..=answers + 1 {
-                for byte_room in 0..=bytes + 2 {
+        let mut stopping = Stopping::new(&mut random, 4, 5);
+        stopping.make_noise(&mut random, 40);
+        for allowance in 0..=stopping.probes + 1 {
+            for answer_room in 0..=stopping.answers + 1 {
+                for byte_room in 0..=stopping.bytes + 2 {
                     stopping.compare(allowance, answer_room, byte_room);
                 }
             }
@@ -207,20 +216,9 @@ fn stopping_early_everywhere() {
 fn stopping_early_one_by_one() {
     let mut random = Random(15);
     for _ in 0..200 {
-        let runs = random.runs(9, 12);
-        let threshold = random.threshold(&runs);
-        let plain = PlainWalk::new(&runs, threshold);
-        let probes = plain.probes() as u32;
-        let bytes = encode(&plain.parts()).len();
-        let answers = counted_answers(&runs, threshold).len();
-        let stopping = Stopping {
-            runs: &runs,
-            threshold,
-            plain,
-            noise: (0..bytes + answers + 40)
-                .map(|_| random.next() as u8)
-                .collect(),
-        };
+        let mut stopping = Stopping::new(&mut random, 9, 12);
+        let (probes, answers, bytes) = (stopping.probes, stopping.answers, stopping.bytes);
+        stopping.make_noise(&mut random, answers + 40);
         for allowance in 0..=probes + 1 {
             stopping.compare(allowance, answers, bytes);
         }
@@ -320,7 +318,7 @@ fn damage_bytes(random: &mut Random, bytes: &mut Vec<u8>) {
         }
         _ => {
             let i = random.below(bytes.len() + 1);
-            bytes.insert(i, random.next() as u8);
+            bytes.insert(i, random.bits() as u8);
         }
     }
 }
@@ -398,8 +396,8 @@ fn random_certificates() {
     let mut random = Random(16);
     let mut seen = [0; 12];
     for _ in 0..120_000 {
-        let runs = random.runs(5, 6);
-        let threshold = random.threshold(&runs);
+        let runs = any_runs(&mut random, 5, 6);
+        let threshold = any_threshold(&mut random, &runs);
         let mut parts = rewritten(&mut random, &runs, threshold);
         let bytes = encode(&parts);
         let verdict = compare_verdict(&runs, threshold, &bytes);
@@ -431,7 +429,7 @@ fn random_noise() {
     let mut random = Random(17);
     for _ in 0..50_000 {
         let small = |random: &mut Random| match random.below(12) {
-            0 => random.next() as u32,
+            0 => random.word(),
             n => n as u32 / 2,
         };
         let numbers: Vec<u32> = (0..random.below(6)).map(|_| small(&mut random)).collect();
@@ -441,7 +439,7 @@ fn random_noise() {
             ends.push(numbers.len() as u32);
         }
         let threshold = small(&mut random);
-        let bytes: Vec<u8> = (0..random.below(40)).map(|_| random.next() as u8).collect();
+        let bytes: Vec<u8> = (0..random.below(40)).map(|_| random.bits() as u8).collect();
         let verdict = check(&numbers, &ends, threshold, &bytes);
         let mut answers = [7; 3];
         let mut certificate = [7; 60];

@@ -1,7 +1,7 @@
 -- `bound::bound_of` meets its contract. The binary digits of a 32-bit number are few, so the product fits. Assumes nothing.
 use borrow.Author.Needs.{needs}
 use native.Mathlib.Omega.{arith}
-use Rattle.bound.specs.Bound.{boundOf}
+use Rattle.model.specs.Compared.{boundOf}
 use Rattle.bound.proofs.Digits.{bound-fits}
 use Rattle.bound.proofs.bound_of.Statement.{statement}
 use Rattle.bound.proofs.bound_of.Tie as tie

@@ -2,7 +2,7 @@
 use mathlib.Core.List.{[], _∷_}
 use mathlib.Core.Path.{_≡_, sym, ap, _∙_}
 use Rattle.capi.specs.Results.{verdictRow}
-use Rattle.checker.specs.Cursors.{verdictIs}
+use Rattle.checker.specs.Verdicts.{verdictIs}
 use borrow.Author.Needs.{needs}
 use Rattle.capi.proofs.quorum_check.Statement.{statement}
 use Rattle.capi.proofs.quorum_check.Tie as tie

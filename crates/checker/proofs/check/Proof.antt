@@ -7,7 +7,7 @@ use Rattle.model.proofs.FirstChecks.{fits}
 use Rattle.model.specs.Demands.{Fits}
 use Rattle.model.specs.Refusals.{passed, invalid, firstChecks, checkFrom}
 use Rattle.model.specs.Runs.{pastBin, runs}
-use Rattle.checker.specs.Cursors.{verdictIs}
+use Rattle.checker.specs.Verdicts.{verdictIs}
 use Rattle.checker.proofs.Accepting.{few-runs, met, accepted, check-refused, check-passed}
 use Rattle.checker.proofs.Moving.{bin-fits}
 use Rattle.checker.proofs.Placing.{begins}

@@ -4,7 +4,8 @@ use lib.ListN.{length}
 use mathlib.Core.Path.{_≡_, refl, sym, ap, _∙_, subst}
 use native.Mathlib.Omega.{arith}
 use Rattle.fields.specs.Fields.{partOf}
-use Rattle.checker.proofs.Following.{Along, along-start, along-unreadable, along-refused, along-on, next-is, size-pos, answers-few, along-valid, along-uncovered}
+use Rattle.model.proofs.Checking.{size-pos}
+use Rattle.checker.proofs.Following.{Along, along-start, along-unreadable, along-refused, along-on, next-is, answers-few, along-valid, along-uncovered}
 use borrow.Author.Needs.{needs}
 use Rattle.checker.proofs.check_parts.Statement.{statement}
 use Rattle.checker.proofs.check_parts.Tie as tie

@@ -9,6 +9,7 @@ use native.Mathlib.Omega.{arith}
 use Rattle.model.specs.Refusals.{unrisenIn}
 use Rattle.model.specs.Runs.{runsFrom, runs, unrisen}
 use Rattle.first_checks.specs.Checked.{placeOf}
+use Rattle.model.proofs.Slices.{part-length}
 use Rattle.first_checks.proofs.Laws.{Ordered, next-end, next-ordered, runs-at, runs-on, runs-end}
 use borrow.Author.Needs.{needs}
 use Rattle.first_checks.proofs.unrisen_number.Statement.{statement}
@@ -43,13 +44,35 @@ shared-slice-read-wide c = search needs
 wide-requires : tie.Need-wide-requires Inv-loop μ-loop
 wide-requires c κs = search needs
 
-unrisen-in-run-requires : tie.Need-unrisen-in-run-requires Inv-loop μ-loop
-unrisen-in-run-requires c κs =
+-- the run lies in the numbers
+inside : (c : tie.After-wide Inv-loop μ-loop) → (let l = c .before .before .before in (l .loop .start ≤ c .wide .result) × (c .wide .result ≤ length (c .before .before .before .before .before .before .args .numbers .now)))
+inside c =
     let l = c .before .before .before in
-    let a = l .before .before .before .args in
+    let a = c .before .before .before .before .before .before .args in
     let n = next-end (a .numbers .now) (a .ends .now) (l .loop .start) (l .loop .i) (c .before .before .loop-test .taken) (l .loop .inv .ordered) in
     let e = c .wide .ensures in
     (omega (arith, n .0), omega (arith, n .1))
+
+mul-first-unrisen : tie.Need-mul-first-unrisen Inv-loop μ-loop
+mul-first-unrisen c = let n = inside c in omega (arith, n .0, n .1)
+
+sub-first-unrisen : tie.Need-sub-first-unrisen Inv-loop μ-loop
+sub-first-unrisen c = let n = inside c in omega (arith, n .0)
+
+part-first-unrisen-start : tie.Need-part-first-unrisen-start Inv-loop μ-loop
+part-first-unrisen-start c = inside c .0
+
+part-first-unrisen-end : tie.Need-part-first-unrisen-end Inv-loop μ-loop
+part-first-unrisen-end c = inside c .1
+
+first-unrisen-requires : tie.Need-first-unrisen-requires Inv-loop μ-loop
+first-unrisen-requires c κs =
+    let n = inside (c .before) in
+    let a = c .before .before .before .before .before .before .before .args in
+    let l = c .before .before .before .before .loop in
+    let k = part-length (l .start) (c .before .wide .result) (a .numbers .now) (n .1) in
+    let w = c .before .before .before .before .before .before .shared-slice-known in
+    omega (arith, n .0, n .1)
 
 enum-known-place : tie.Need-enum-known-place Inv-loop μ-loop
 enum-known-place c = search needs
@@ -57,11 +80,11 @@ enum-known-place c = search needs
 returns : tie.Need-returns Inv-loop μ-loop
 returns c =
     let u = c .before .before .before in
-    let l = u .before .before .before .before in
-    let a = l .before .before .before .args in
-    let p = c .before .place .given .0 .0 in
-    sym (l .loop .inv .same ∙ runs-at (a .numbers .now) (a .ends .now) (l .loop .start) (l .loop .i) p (u .before .before .before .loop-test .taken)
-    (part-is (a .numbers .now) (l .loop .start) (u .before .wide .ensures) (sym (u .unrisen-in-run .ensures) ∙ ap placeOf (c .before .place .given .1))))
+    let l = c .before .before .before .before .before .before .before .before in
+    let a = c .before .before .before .before .before .before .before .before .before .before .before .args in
+    let g = c .before .place .given in
+    sym (l .loop .inv .same ∙ runs-at (a .numbers .now) (a .ends .now) (l .loop .start) (l .loop .i) (g .0 .0) (c .before .before .before .before .before .before .before .loop-test .taken)
+    (part-is (a .numbers .now) (l .loop .start) (c .before .before .before .before .before .wide .ensures) (sym (u .first-unrisen .ensures) ∙ ap placeOf (g .1))))
 
 enum-told : tie.Need-enum-told Inv-loop μ-loop
 enum-told c = search needs
@@ -75,15 +98,15 @@ loop-less c = search needs
 loop-again : tie.Need-loop-again Inv-loop μ-loop
 loop-again c =
     let u = c .before .before in
-    let l = u .before .before .before .before in
-    let a = l .before .before .before .args in
-    let h = u .before .before .before .loop-test .taken in
-    let w = u .before .wide .ensures in
+    let l = c .before .before .before .before .before .before .before in
+    let a = c .before .before .before .before .before .before .before .before .before .before .args in
+    let h = c .before .before .before .before .before .before .loop-test .taken in
+    let w = c .before .before .before .before .wide .ensures in
     record {
       bound = omega arith;
       ordered = rw w (next-ordered (a .numbers .now) (a .ends .now) (l .loop .start) (l .loop .i) h (l .loop .inv .ordered));
       same = l .loop .inv .same ∙ (runs-on (a .numbers .now) (a .ends .now) (l .loop .start) (l .loop .i) h (l .loop .inv .ordered)
-          (part-is (a .numbers .now) (l .loop .start) w (sym (u .unrisen-in-run .ensures) ∙ ap placeOf (c .enum-told .given .1))) ∙ rw w);
+          (part-is (a .numbers .now) (l .loop .start) w (sym (u .first-unrisen .ensures) ∙ ap placeOf (c .enum-told .given .1))) ∙ rw w);
     }
 
 returns-2 : tie.Need-returns-2 Inv-loop μ-loop
@@ -102,7 +125,11 @@ unrisen-number-spec =
     mul-wide
     shared-slice-read-wide
     wide-requires
-    unrisen-in-run-requires
+    mul-first-unrisen
+    sub-first-unrisen
+    part-first-unrisen-start
+    part-first-unrisen-end
+    first-unrisen-requires
     enum-known-place
     returns
     enum-told

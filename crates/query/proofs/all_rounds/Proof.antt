@@ -6,7 +6,7 @@ use native.Mathlib.Omega.{arith}
 use Rattle.model.specs.Walk.{round, walk}
 use Rattle.query.specs.Turns.{Goes, Raises}
 use Rattle.query.specs.declared.Turn.the-variants.{On}
-use Rattle.query.proofs.Ending.{past-is}
+use Rattle.walk.proofs.Moving.{past-is}
 use Rattle.query.proofs.Finishing.{Made, made-none, made-more, made-all}
 use Rattle.walk.specs.State.{runsAt}
 use borrow.Author.Needs.{needs}

@@ -5,9 +5,8 @@ use Rattle.first_checks.specs.Checked.{checkOf}
 use Rattle.model.specs.Demands.{Fits}
 use Rattle.model.specs.Refusals.{refused, firstChecks, query}
 use Rattle.model.specs.Runs.{pastBin}
-use Rattle.query.specs.Outcomes.{outcomeIs}
-use Rattle.query.specs.Turns.{Returns}
-use Rattle.query.proofs.Ending.{past-is}
+use Rattle.query.specs.Outcomes.{outcomeIs, Returns}
+use Rattle.walk.proofs.Moving.{past-is}
 use Rattle.query.proofs.Questions.{refused-first, demanded}
 use Rattle.model.proofs.FirstChecks.{fits}
 use borrow.Author.Needs.{needs}

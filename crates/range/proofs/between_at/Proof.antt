@@ -2,28 +2,35 @@
 -- Assumes nothing.
 use borrow.Author.Needs.{needs}
 use denote.Ref.{now}
-use mathlib.Core.Path.{sym, _∙_}
+use mathlib.Core.Option.{none}
+use mathlib.Core.Path.{_≡_, sym, ap, _∙_}
 use native.Mathlib.Omega.{arith}
 use Rattle.model.proofs.From.{Rise}
-use Rattle.model.specs.Runs.{pastBin}
-use Rattle.model.proofs.FirstChecks.{fits}
-use Rattle.range.proofs.Range.{rising-rise, between-none, between-unrisen, spans-none, spans-ranks}
+use Rattle.first_checks.specs.Checked.{placeOf}
+use Rattle.model.specs.Runs.{pastBin, unrisen}
+use Rattle.model.proofs.FirstChecks.{fits, risen}
+use Rattle.range.proofs.Range.{between-none, between-unrisen, spans-none, spans-ranks}
 use Rattle.range.proofs.between_at.Statement.{statement}
 use Rattle.range.proofs.between_at.Tie as tie
 
 -- what the test says of the list
-rise : (c : tie.Then2) → Rise 0 (now (c .before .before .before .before .args .list))
+risen-there : (c : tie.After-enum-told) → unrisen 0 (c .before .before .before .before .before .args .list .now) ≡ none
+risen-there c = sym (c .before .before .first-unrisen .ensures) ∙ ap placeOf (c .enum-told .given .1)
+
+rise : (c : tie.After-enum-told) → Rise 0 (c .before .before .before .before .before .args .list .now)
 unfolding pastBin
 rise c =
-    let at = c .before .before .before in
-    let list = now (at .before .args .list) in
-    rising-rise list (fits pastBin list (λ i. omega (arith, at .shared-slice-known .given i))) (sym (c .before .rises .ensures) ∙ c .if2 .taken)
+    let list = c .before .before .before .before .before .args .list .now in
+    risen 0 list (risen-there c) (fits pastBin list (λ i. omega (arith, c .before .before .before .before .shared-slice-known .given i)))
 
 returns : tie.Need-returns
 returns c = let a = c .before .before .args in spans-none _ _ _ (between-none (a .first) (a .last) (now (a .list)) (c .if1 .taken))
 
-rises-requires : tie.Need-rises-requires
-rises-requires c κs = search needs
+first-unrisen-requires : tie.Need-first-unrisen-requires
+first-unrisen-requires c κs = omega arith
+
+enum-told : tie.Need-enum-told
+enum-told c = search needs
 
 wide-requires : tie.Need-wide-requires
 wide-requires c κs = search needs
@@ -43,26 +50,32 @@ first-at-least-requires-2 c κs = rise (c .before .before .before)
 returns-2 : tie.Need-returns-2
 returns-2 c =
     let at = c .before .before .before .before in
-    let a = at .before .before .before .before .args in
-    let list = now (a .list) in
+    let a = c .before .before .before .before .before .before .before .before .before .args in
     rw (c .first-at-least2 .ensures, c .before .wide2 .ensures, c .before .before .first-at-least .ensures, c .before .before .before .wide .ensures)
-    (spans-ranks (a .first) (a .last) list (omega arith) (sym (at .before .rises .ensures) ∙ at .if2 .taken) (rise at))
+    (spans-ranks (a .first) (a .last) (a .list .now) (omega arith) (risen-there at) (rise at))
+
+enum-told-2 : tie.Need-enum-told-2
+enum-told-2 c = search needs
 
 returns-3 : tie.Need-returns-3
 returns-3 c =
-    let a = c .before .before .before .before .args in
-    spans-none _ _ _ (between-unrisen (a .first) (a .last) (now (a .list)) (omega arith) (sym (c .before .rises .ensures) ∙ c .if2 .left))
+    let a = c .before .before .before .before .before .args in
+    let g = c .enum-told2 .given in
+    spans-none _ _ _
+    (between-unrisen (a .first) (a .last) (a .list .now) (g .0 .0) (omega arith) (sym (c .before .before .first-unrisen .ensures) ∙ ap placeOf (g .1)))
 
 pub between-at-spec : {M : Type 1} → statement M
 between-at-spec =
     tie.close
     (tie.spec
     returns
-    rises-requires
+    first-unrisen-requires
+    enum-told
     wide-requires
     first-at-least-requires
     wide-requires-2
     add-first-at-least
     first-at-least-requires-2
     returns-2
+    enum-told-2
     returns-3)

@@ -1,40 +1,17 @@
-//! What several tests share: small inputs, a random generator and a plain
-//! second form of the walk.
+//! What several tests of this crate share: queries on buffers of given sizes,
+//! random runs and a plain second form of the walk.
 
 // Each test file is a program of its own and uses only some of this.
 #![allow(dead_code)]
 
-use reference::{encode, Outcome, Part};
+use reference::testing::{accepted, gap, hit, lay_out, refused, slices, Random, M};
+use reference::{encode, query, Outcome, Part};
 use std::collections::BTreeMap;
 
-/// The largest bin.
-pub const M: u32 = u32::MAX;
-
-/// An answer, for short lists of expected parts.
-pub fn hit(value: u32, mask: u64) -> Part {
-    Part::Answer { value, mask }
-}
-
-/// A gap, for short lists of expected parts.
-pub fn gap(first: u32, last: u32, mask: u64) -> Part {
-    Part::Gap { first, last, mask }
-}
-
-/// The row of numbers and the row of ends of some runs.
-pub fn lay_out<R: AsRef<[u32]>>(runs: &[R]) -> (Vec<u32>, Vec<u32>) {
-    let mut numbers = Vec::new();
-    let mut ends = Vec::new();
-    for run in runs {
-        numbers.extend_from_slice(run.as_ref());
-        ends.push(numbers.len() as u32);
-    }
-    (numbers, ends)
-}
-
-/// The runs as slices.
-pub fn slices<R: AsRef<[u32]>>(runs: &[R]) -> Vec<&[u32]> {
-    runs.iter().map(|run| run.as_ref()).collect()
-}
+/// What stands in a buffer before a query.
+pub const FILLER: u32 = 0xabab_abab;
+/// The same in a buffer of bytes.
+pub const FILLER_BYTE: u8 = 0xab;
 
 /// The bins that at least `threshold` runs hold, found by counting.
 pub fn counted_answers<R: AsRef<[u32]>>(runs: &[R], threshold: u32) -> Vec<u32> {
@@ -51,62 +28,76 @@ pub fn counted_answers<R: AsRef<[u32]>>(runs: &[R], threshold: u32) -> Vec<u32> 
         .collect()
 }
 
-/// A splitmix64 generator.
-pub struct Random(pub u64);
-
-impl Random {
-    pub fn next(&mut self) -> u64 {
-        self.0 = self.0.wrapping_add(0x9e37_79b9_7f4a_7c15);
-        let mut z = self.0;
-        z = (z ^ (z >> 30)).wrapping_mul(0xbf58_476d_1ce4_e5b9);
-        z = (z ^ (z >> 27)).wrapping_mul(0x94d0_49bb_1331_11eb);
-        z ^ (z >> 31)
+/// Asks with buffers of the given sizes; returns the outcome, the answers and
+/// the certificate bytes written, after a look at what lies behind them.
+pub fn ask<R: AsRef<[u32]>>(
+    runs: &[R],
+    threshold: u32,
+    allowance: u32,
+    answer_room: usize,
+    byte_room: usize,
+) -> (Outcome, Vec<u32>, Vec<u8>) {
+    let (numbers, ends) = lay_out(runs);
+    let mut answers = vec![FILLER; answer_room];
+    let mut certificate = vec![FILLER_BYTE; byte_room];
+    let outcome = query(
+        &numbers,
+        &ends,
+        threshold,
+        allowance,
+        &mut answers,
+        &mut certificate,
+    );
+    let (Outcome::Accepted {
+        answers: count,
+        bytes,
+        ..
     }
+    | Outcome::Refused {
+        answers: count,
+        bytes,
+        ..
+    }) = outcome;
+    let later_answers = answers.split_off(count as usize);
+    let later_bytes = certificate.split_off(bytes as usize);
+    assert!(later_answers.iter().all(|&x| x == FILLER));
+    assert!(later_bytes.iter().all(|&x| x == FILLER_BYTE));
+    (outcome, answers, certificate)
+}
 
-    /// A number below `limit`, which is above 0.
-    pub fn below(&mut self, limit: usize) -> usize {
-        (self.next() % limit as u64) as usize
+/// A bin: near 0, near M, in the middle or anywhere, as `kind` says.
+fn any_bin(random: &mut Random, kind: usize, spread: usize) -> u32 {
+    let near = random.below(spread) as u32;
+    match kind {
+        0 => near,
+        1 => M - near,
+        2 => 1_000_000 + near,
+        3 if random.one_in(2) => near,
+        3 => M - near,
+        _ => random.word(),
     }
+}
 
-    /// True once in `n` times.
-    pub fn one_in(&mut self, n: usize) -> bool {
-        self.below(n) == 0
-    }
+/// From 1 to `most_runs` runs of up to `most_numbers` numbers each. Often
+/// the numbers are close together, so that runs share many of them.
+pub fn any_runs(random: &mut Random, most_runs: usize, most_numbers: usize) -> Vec<Vec<u32>> {
+    let k = 1 + random.below(most_runs);
+    let kind = random.below(5);
+    let spread = 1 + random.below(3 * most_numbers);
+    (0..k)
+        .map(|_| {
+            let length = random.below(most_numbers + 1);
+            let mut run: Vec<u32> = (0..length).map(|_| any_bin(random, kind, spread)).collect();
+            run.sort_unstable();
+            run.dedup();
+            run
+        })
+        .collect()
+}
 
-    /// A bin: near 0, near M, in the middle or anywhere, as `kind` says.
-    fn bin(&mut self, kind: usize, spread: usize) -> u32 {
-        let near = self.below(spread) as u32;
-        match kind {
-            0 => near,
-            1 => M - near,
-            2 => 1_000_000 + near,
-            3 if self.one_in(2) => near,
-            3 => M - near,
-            _ => self.next() as u32,
-        }
-    }
-
-    /// From 1 to `most_runs` runs of up to `most_numbers` numbers each. Often
-    /// the numbers are close together, so that runs share many of them.
-    pub fn runs(&mut self, most_runs: usize, most_numbers: usize) -> Vec<Vec<u32>> {
-        let k = 1 + self.below(most_runs);
-        let kind = self.below(5);
-        let spread = 1 + self.below(3 * most_numbers);
-        (0..k)
-            .map(|_| {
-                let length = self.below(most_numbers + 1);
-                let mut run: Vec<u32> = (0..length).map(|_| self.bin(kind, spread)).collect();
-                run.sort_unstable();
-                run.dedup();
-                run
-            })
-            .collect()
-    }
-
-    /// A threshold from 1 to the number of runs.
-    pub fn threshold(&mut self, runs: &[Vec<u32>]) -> u32 {
-        1 + self.below(runs.len()) as u32
-    }
+/// A threshold from 1 to the number of runs.
+pub fn any_threshold(random: &mut Random, runs: &[Vec<u32>]) -> u32 {
+    1 + random.below(runs.len()) as u32
 }
 
 /// One thing that a walk does.
@@ -229,20 +220,10 @@ impl PlainWalk {
         }
         let certificate = encode(&parts);
         let counts = (answers.len() as u64, certificate.len() as u64);
+        let written = parts.len() as u64;
         let outcome = match refusal {
-            None => Outcome::Accepted {
-                answers: counts.0,
-                parts: parts.len() as u64,
-                bytes: counts.1,
-                probes,
-            },
-            Some(number) => Outcome::Refused {
-                number,
-                place: parts.len() as u64,
-                answers: counts.0,
-                bytes: counts.1,
-                probes,
-            },
+            None => accepted(counts.0, written, counts.1, probes),
+            Some(number) => refused(number, written, counts.0, counts.1, probes),
         };
         (outcome, answers, certificate)
     }

@@ -1,0 +1,304 @@
+//! What the tests of this crate and the comparison share: short forms, rows
+//! from runs, all small inputs, random numbers, and document 01's instances as
+//! a list of runs, threshold, allowance, expected parts and outcome.
+
+use crate::{Outcome, Part};
+
+/// The largest bin.
+pub const M: u32 = u32::MAX;
+
+/// The runs of document 01's first instance.
+pub const THREE_RUNS: [&[u32]; 3] = [&[2, 5, 9], &[5, 7, 9, 12], &[1, 9]];
+
+/// The parts of [`THREE_RUNS`] with threshold 2.
+pub const THREE_RUNS_PARTS: [Part; 6] = [
+    gap(0, 1, 3),
+    gap(2, 4, 6),
+    hit(5, 3),
+    gap(6, 8, 5),
+    hit(9, 7),
+    gap(10, M, 5),
+];
+
+/// Seven runs that are asked about with two thresholds.
+pub const SEVEN_RUNS: [&[u32]; 7] = [
+    &[9],
+    &[1, 2, 9, 11],
+    &[3, 9, 12, 13],
+    &[9, 14, 15, 16],
+    &[4, 10, 17, 18],
+    &[5, 6, 7, 10],
+    &[8, 10, 19, 20],
+];
+
+/// An answer, for short lists of expected parts.
+pub const fn hit(value: u32, mask: u64) -> Part {
+    Part::Answer { value, mask }
+}
+
+/// A gap, for short lists of expected parts.
+pub const fn gap(first: u32, last: u32, mask: u64) -> Part {
+    Part::Gap { first, last, mask }
+}
+
+/// The outcome of an accepted query.
+pub const fn accepted(answers: u64, parts: u64, bytes: u64, probes: u64) -> Outcome {
+    Outcome::Accepted {
+        answers,
+        parts,
+        bytes,
+        probes,
+    }
+}
+
+/// The outcome of a refused query.
+pub const fn refused(number: u8, place: u64, answers: u64, bytes: u64, probes: u64) -> Outcome {
+    Outcome::Refused {
+        number,
+        place,
+        answers,
+        bytes,
+        probes,
+    }
+}
+
+/// The row of numbers and the row of ends of some runs.
+pub fn lay_out<R: AsRef<[u32]>>(runs: &[R]) -> (Vec<u32>, Vec<u32>) {
+    let mut numbers = Vec::new();
+    let mut ends = Vec::new();
+    for run in runs {
+        numbers.extend_from_slice(run.as_ref());
+        ends.push(numbers.len() as u32);
+    }
+    (numbers, ends)
+}
+
+/// The runs as slices.
+pub fn slices<R: AsRef<[u32]>>(runs: &[R]) -> Vec<&[u32]> {
+    runs.iter().map(|run| run.as_ref()).collect()
+}
+
+/// All choices of `k` runs over four bins, two at each end of the line.
+pub fn small_inputs(k: u32) -> impl Iterator<Item = Vec<Vec<u32>>> {
+    let subset = |chosen: usize| -> Vec<u32> {
+        let bins = [0, 1, M - 1, M];
+        let is_chosen = |i: &usize| chosen >> i & 1 == 1;
+        (0..4).filter(is_chosen).map(|i| bins[i]).collect()
+    };
+    let runs = move |choice| (0..k).map(|i| subset(choice >> (4 * i) & 15)).collect();
+    (0..16_usize.pow(k)).map(runs)
+}
+
+/// A splitmix64 generator: equal seeds give equal numbers.
+pub struct Random(pub u64);
+
+impl Random {
+    /// The next 64 bits.
+    pub fn bits(&mut self) -> u64 {
+        self.0 = self.0.wrapping_add(0x9e37_79b9_7f4a_7c15);
+        let mut z = self.0;
+        z = (z ^ (z >> 30)).wrapping_mul(0xbf58_476d_1ce4_e5b9);
+        z = (z ^ (z >> 27)).wrapping_mul(0x94d0_49bb_1331_11eb);
+        z ^ (z >> 31)
+    }
+
+    /// Any 32-bit number.
+    pub fn word(&mut self) -> u32 {
+        self.bits() as u32
+    }
+
+    /// A number below `limit`, which is above 0.
+    pub fn below(&mut self, limit: usize) -> usize {
+        (self.bits() % limit as u64) as usize
+    }
+
+    /// A number from `first` to `last`.
+    pub fn from_to(&mut self, first: usize, last: usize) -> usize {
+        first + self.below(last - first + 1)
+    }
+
+    /// True once in `n` times.
+    pub fn one_in(&mut self, n: usize) -> bool {
+        self.below(n) == 0
+    }
+
+    /// One of the choices, of which there is at least one.
+    pub fn pick<T: Copy>(&mut self, choices: &[T]) -> T {
+        choices[self.below(choices.len())]
+    }
+}
+
+/// A query with ample buffers and what is expected of it.
+#[derive(Clone, Debug)]
+pub struct Instance {
+    /// What the instance shows.
+    pub name: String,
+    /// The runs.
+    pub runs: Vec<Vec<u32>>,
+    /// How many runs must hold an answer.
+    pub threshold: u32,
+    /// The probes allowed: exactly those needed if the query is accepted.
+    pub allowance: u32,
+    /// The parts written.
+    pub parts: Vec<Part>,
+    /// What the query returns.
+    pub outcome: Outcome,
+}
+
+impl Instance {
+    fn new<R: AsRef<[u32]>>(
+        name: impl Into<String>,
+        runs: &[R],
+        (threshold, allowance): (u32, u32),
+        parts: &[Part],
+        outcome: Outcome,
+    ) -> Self {
+        Instance {
+            name: name.into(),
+            runs: runs.iter().map(|run| run.as_ref().to_vec()).collect(),
+            threshold,
+            allowance,
+            parts: parts.to_vec(),
+            outcome,
+        }
+    }
+
+    /// Whether the query is accepted.
+    pub fn is_accepted(&self) -> bool {
+        matches!(self.outcome, Outcome::Accepted { .. })
+    }
+
+    /// The answers written.
+    pub fn answers(&self) -> Vec<u32> {
+        let value = |part: &Part| match part {
+            Part::Answer { value, .. } => Some(*value),
+            Part::Gap { .. } => None,
+        };
+        self.parts.iter().filter_map(value).collect()
+    }
+}
+
+/// The instances of document 01 and the edges near them.
+pub fn instances() -> Vec<Instance> {
+    let tens: Vec<u32> = (1..=10).map(|i| 10 * i).collect();
+    let none: [&[u32]; 0] = [];
+    let three = THREE_RUNS_PARTS;
+    let mut all = vec![
+        Instance::new(
+            "three runs",
+            &THREE_RUNS,
+            (2, 3),
+            &three,
+            accepted(2, 6, 106, 3),
+        ),
+        Instance::new(
+            "three runs, one probe short",
+            &THREE_RUNS,
+            (2, 2),
+            &three[..4],
+            refused(7, 4, 1, 72, 2),
+        ),
+        Instance::new(
+            "three runs, no probe",
+            &THREE_RUNS,
+            (2, 0),
+            &three[..1],
+            refused(7, 1, 0, 19, 0),
+        ),
+        Instance::new(
+            "one number against ten",
+            &[&[100][..], &tens],
+            (2, 5),
+            &[gap(0, 99, 1), hit(100, 3), gap(101, M, 3)],
+            accepted(1, 3, 53, 5),
+        ),
+        Instance::new(
+            "two blocks",
+            &[[1, 2, 3], [4, 5, 6]],
+            (2, 2),
+            &[gap(0, 3, 2), gap(4, M, 1)],
+            accepted(0, 2, 38, 2),
+        ),
+        Instance::new(
+            "both ends of the line",
+            &[[0, M]],
+            (1, 0),
+            &[hit(0, 1), gap(1, 4_294_967_294, 1), hit(M, 1)],
+            accepted(2, 3, 49, 0),
+        ),
+        Instance::new(
+            "one empty run",
+            &[[]],
+            (1, 0),
+            &[gap(0, M, 1)],
+            accepted(0, 1, 19, 0),
+        ),
+        Instance::new(
+            "two equal runs",
+            &[[7], [7]],
+            (2, 0),
+            &[gap(0, 6, 3), hit(7, 3), gap(8, M, 3)],
+            accepted(1, 3, 53, 0),
+        ),
+        Instance::new(
+            "seven runs, all",
+            &SEVEN_RUNS,
+            (7, 11),
+            &[gap(0, 8, 9), gap(9, 9, 112), gap(10, M, 1)],
+            accepted(0, 3, 57, 11),
+        ),
+        Instance::new(
+            "seven runs, four",
+            &SEVEN_RUNS,
+            (4, 13),
+            &[
+                gap(0, 4, 105),
+                gap(5, 8, 31),
+                hit(9, 15),
+                gap(10, 10, 15),
+                gap(11, 16, 113),
+                gap(17, M, 47),
+            ],
+            accepted(1, 6, 110, 13),
+        ),
+        // In the search for 55, after places 1, 2 and 4, halving probes place
+        // 5 if it rounds down, but places 6 and 5 if it rounds up.
+        Instance::new(
+            "halving rounds down",
+            &[&[10, 20, 30, 40, 50, 60, 70][..], &[55]],
+            (2, 4),
+            &[gap(0, 54, 2), gap(55, 59, 1), gap(60, M, 2)],
+            accepted(0, 3, 57, 4),
+        ),
+        // A largest number that too few runs hold is a gap of its own.
+        Instance::new(
+            "no answer at the largest number",
+            &[[3], [M]],
+            (2, 0),
+            &[gap(0, M - 1, 2), gap(M, M, 1)],
+            accepted(0, 2, 38, 0),
+        ),
+        Instance::new("no runs", &none, (1, 0), &[], refused(1, 0, 0, 0, 0)),
+        Instance::new("65 runs", &[[7]; 65], (64, 0), &[], refused(1, 65, 0, 0, 0)),
+        Instance::new(
+            "a run that repeats a number",
+            &[[3, 3]],
+            (1, 0),
+            &[],
+            refused(4, 1, 0, 0, 0),
+        ),
+    ];
+    for k in 1..=64 {
+        let runs = vec![[7]; k as usize];
+        let mask = u64::MAX >> (64 - k);
+        let parts = [gap(0, 6, mask), hit(7, mask), gap(8, M, mask)];
+        let named = |rest: &str| format!("{k} equal runs, {rest}");
+        let above = refused(2, u64::from(k) + 1, 0, 0, 0);
+        all.extend([
+            Instance::new(named("all"), &runs, (k, 0), &parts, accepted(1, 3, 53, 0)),
+            Instance::new(named("one too many"), &runs, (k + 1, 0), &[], above),
+            Instance::new(named("none"), &runs, (0, 0), &[], refused(2, 0, 0, 0, 0)),
+        ]);
+    }
+    all
+}
