@@ -1,4 +1,4 @@
--- A mask with a run's bit set, and the lowest run of a mask. Definitions only.
+-- A mask with a run's bit set, and the lowest and the highest run of a mask. Definitions only.
 use Prim.Native.Nat.{ℕ, _^_, _<_}
 use lib.Bits.{bitOr}
 use mathlib.Core.Path.{_≡_}
@@ -12,4 +12,10 @@ withRun m i = bitOr m (2 ^ i)
 pub record Lowest (m r : ℕ) : Type 0 where
   pub here : bit m r ≡ 1
   pub none-before : (i : ℕ) → i < r → bit m i ≡ 0
+  pub small : r < 64
+
+-- r is the highest run that m names
+pub record Highest (m r : ℕ) : Type 0 where
+  pub here : bit m r ≡ 1
+  pub none-after : (i : ℕ) → r < i → bit m i ≡ 0
   pub small : r < 64

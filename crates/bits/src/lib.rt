@@ -1,10 +1,10 @@
 // Masks: a 64-bit number in which bit i speaks of run i, bit 0 being the lowest.
 ghost use mathlib.Core.Path.{_≡_};
-ghost use Prim.Native.Nat.{_+_, _/_, _^_, _≤_, _<_};
+ghost use Prim.Native.Nat.{_+_, _-_, _/_, _^_, _≤_, _<_};
 ghost use lib.Count.{ones};
 ghost use lib.Dec.{eqb};
 ghost use Rattle.model.specs.Runs.{bit};
-ghost use Rattle.bits.specs.Bits.{withRun, Lowest};
+ghost use Rattle.bits.specs.Bits.{withRun, Lowest, Highest};
 
 // The mask that names `run` too.
 pub fn with_run(mask: u64, run: u32) -> u64
@@ -48,10 +48,29 @@ pub fn lowest_run(mask: u64) -> u32
     u64::trailing_zeros(mask)
 }
 
+// The highest run that the mask names.
+pub fn highest_run(mask: u64) -> u32
+    requires { ⌜ 0 < mask ⌝ }
+    ensures { λ r. ⌜ Highest mask r ⌝ }
+{
+    63 - u64::leading_zeros(mask)
+}
+
 // The mask that names `run` no more.
 pub fn without_run(mask: u64, run: u32) -> u64
     requires { ⌜ (run < 64) × (bit mask run ≡ 1) ⌝ }
     ensures { λ r. ⌜ r + 2 ^ run ≡ mask ⌝ }
 {
     mask - (1u64 << run)
+}
+
+// The mask that names all the runs below `k`.
+pub fn all_runs(k: usize) -> u64
+    requires { ⌜ k ≤ 64 ⌝ }
+    ensures { λ r. ⌜ r ≡ 2 ^ k - 1 ⌝ }
+{
+    if k == 64 {
+        return 18446744073709551615;
+    }
+    (1u64 << k) - 1
 }

@@ -1,2 +1,3 @@
-pub mod Row
+pub mod Carrying
 pub mod Laws
+pub mod Row

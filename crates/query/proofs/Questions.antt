@@ -27,17 +27,10 @@ abbrev pub firstState : ℕ → ℕ → State
 firstState start allowance = record { floor = 0; start = start; answers = 0; parts = 0; bytes = 0; left = allowance }
 
 module _ (numbers ends : List ℕ) (t : ℕ) (positions keys : List ℕ) (b : Begins numbers ends t positions keys) where
-  pub begin-ready : BeginReady numbers ends positions keys
+  pub begin-ready : BeginReady numbers ends positions × (length keys ≡ length ends)
   begin-ready =
       let p = first-passed numbers ends t (b .checked) in
-      record {
-        few = p .few-runs;
-        rise = p .ends-rise;
-        last = p .ends-last;
-        positions-size = b .positions-size;
-        keys-size = b .keys-size;
-        small = p .few-numbers;
-      }
+      (record { few = p .few-runs; rise = p .ends-rise; last = p .ends-last; size = b .positions-size }, b .keys-size)
 
   module _ (fits : Fits pastBin numbers) (A B positions′ keys′ : List ℕ) (start allowance : ℕ) (h : Holds numbers ends positions′ keys′ start (runs numbers ends)) where
     pub stands-first : Stands numbers ends positions′ keys′ t (firstState start allowance) × Fitted A B (firstState start allowance)

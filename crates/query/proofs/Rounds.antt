@@ -14,7 +14,7 @@ use Rattle.model.specs.Walk.{Event, sought, doubled, halved, wrote, head, tthHe
 use Rattle.model.proofs.Bounds.{search-made, search-none}
 use Rattle.model.proofs.Count.{total-eq, total-add}
 use Rattle.model.proofs.Heads.{below}
-use Rattle.model.proofs.Masks.{Labelled, labelled-nil, labelled-cons, label-first, label-rest}
+use Rattle.model.proofs.Masks.{Labelled, every, mask-all}
 use Rattle.model.proofs.Tests.{both, lt-or-le}
 use Rattle.model.proofs.Truth.{not-below}
 use Rattle.model.proofs.Walking.{equal}
@@ -27,18 +27,6 @@ one-not : (b : Bool) → one b + one (not b) ≡ 1
 unfolding one
 one-not true = refl
 one-not false = refl
-
-every : Run → Bool
-every r = true
-
-mask-all : {a : ℕ} (rs : List Run) → Labelled a rs → mask every rs + 2 ^ a ≡ 2 ^ (a + length rs)
-unfolding mask total one every
-mask-all {a} [] l = let e : a + 0 ≡ a = omega arith in rw e (omega arith)
-mask-all {a} (r ∷ rs) l =
-    let i = mask-all rs (label-rest l) in
-    let e : suc a + length rs ≡ a + suc (length rs) = omega arith in
-    let f = ap (λ x. 2 ^ x) (label-first l) in
-    omega (arith, ap (λ x. 2 ^ x) e)
 
 mask-split : (p q : Run → Bool) (rs : List Run) → ((r : Run) → q r ≡ not (p r)) → mask p rs + mask q rs ≡ mask every rs
 unfolding mask every

@@ -102,17 +102,6 @@ fn gap_before(certificate: &mut [u8], w: State, v: u32, named: u64) -> Wrote
     gap_to(certificate, w, v - 1, named)
 }
 
-// All the runs below k.
-fn all_runs(k: usize) -> u64
-    requires { ⌜ k ≤ 64 ⌝ }
-    ensures { λ r. ⌜ r ≡ 2 ^ k - 1 ⌝ }
-{
-    if k == 64 {
-        return 18446744073709551615;
-    }
-    (1u64 << k) - 1
-}
-
 // Too few runs have a head: writes the gap from the floor to the last bin, naming the runs without one, and ends.
 fn last_gap(ends: &[u32], keys: &[u64], certificate: &mut [u8], w: State) -> Turn
     requires { ⌜ LastReady (now ends) (now keys) (now certificate) w ⌝ }
@@ -123,7 +112,7 @@ fn last_gap(ends: &[u32], keys: &[u64], certificate: &mut [u8], w: State) -> Tur
         certificate,
         w,
         4294967295,
-        all_runs(ends.len()) - headed.named,
+        bits::all_runs(ends.len()) - headed.named,
     ) else {
         return Turn::Stopped(6, w);
     };
@@ -233,7 +222,7 @@ fn advance(
 {
     let front = order::front(keys, w.start, wide(v) * 256);
     let named = front.named;
-    let Wrote::On(x) = gap_before(certificate, w, v, all_runs(ends.len()) - named) else {
+    let Wrote::On(x) = gap_before(certificate, w, v, bits::all_runs(ends.len()) - named) else {
         return Turn::Stopped(6, w);
     };
     let Moved::On { start, left } = walk::search_runs(

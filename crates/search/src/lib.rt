@@ -3,7 +3,7 @@ ghost use mathlib.Core.Path.{_≡_};
 ghost use Prim.Native.Nat.{_≤_};
 ghost use lib.ListN.{length};
 ghost use Rattle.model.specs.Walk.{doubling, halving, seek};
-ghost use Rattle.search.specs.Limited.{bracketWithin, placeWithin, soughtWithin};
+ghost use Rattle.search.specs.Limited.{bracketWithin, ifBelow, placeWithin, soughtWithin};
 
 // Where the doubling ended, with its probes; or that no probe was left for it.
 pub enum Bracketed {
@@ -61,7 +61,17 @@ fn doubled(s: &[u32], v: u32, left: u32) -> Bracketed
     }
 }
 
-// Halving between a place below v and one that is not.
+// `n` where x is below v, otherwise 0.
+fn if_below(x: u32, v: u32, n: usize) -> usize
+    ensures { λ r. ⌜ r ≡ ifBelow x v n ⌝ }
+{
+    if x < v {
+        return n;
+    }
+    0
+}
+
+// Halving between a place below v and one that is not. Which half goes on cannot be foretold, so no branch depends on it.
 fn halved(s: &[u32], v: u32, from: usize, to: usize, left: u32) -> Placed
     requires { ⌜ (from ≤ to) × (to ≤ length (now s)) ⌝ }
     ensures { λ r. ⌜ r ≡ placeWithin left (halving (length (now (s .entry))) v (now (s .entry)) from to) ⌝ }
@@ -73,14 +83,12 @@ fn halved(s: &[u32], v: u32, from: usize, to: usize, left: u32) -> Placed
         if probes == left {
             return Placed::NoneLeft;
         }
-        let m = lo + (hi - lo) / 2;
+        let half = (hi - lo) / 2;
+        let m = lo + half;
         let x = s[m];
         probes += 1;
-        if x < v {
-            lo = m;
-        } else {
-            hi = m;
-        }
+        lo = lo + if_below(x, v, half);
+        hi = m + if_below(x, v, hi - m);
     }
     Placed::At {
         place: hi,

@@ -1,5 +1,5 @@
--- A move of all the runs that a mask names, one run at a time. At each turn the runs that are still named are where they were and have no key in the row;
--- the others are moved and have theirs. Assumes nothing.
+-- A move of all the runs that a mask names, one run at a time: at each turn the runs that are still named are where they were, the others are moved.
+-- Assumes nothing.
 use Prim.Native.Nat.{ℕ, zero, suc, _+_, _-_, _*_, _/_, _%_, _^_, _≤_, _<_}
 use borrow.Author.Tests.{eq-eqb, ne-eqb, lt-ltb, le-ltb, ltb-true, eqb-true}
 use lib.Dec.{ltb, eqb}
@@ -22,17 +22,13 @@ use Rattle.model.proofs.Tests.{both, lt-or-le, eq-or-ne}
 use Rattle.order.proofs.Row.{sum-one}
 use Rattle.model.proofs.Heads.{Ordered}
 use Rattle.order.specs.Row.{sumOf}
-use Rattle.walk.specs.Moves.{PutBack, Movable, RunMoved, stepNamed}
+use Rattle.walk.specs.Moves.{Placeable, stepNamed}
 use Rattle.walk.specs.State.{runsAt, weigh, putHead, InOrder, Inside, notNamed, Holds, Lacks}
 use Rattle.walk.proofs.Moving.{noRun, runs-at-length, runs-at-labels, run-at, runs-at-set, label-at, member-at, pending, pending-named, pending-moved, not-named-zero, not-named-is, Cleared, run-named, state-step, sum-step, put-sum, put-ordered}
 
-pub record Going (numbers ends : List ℕ) (rs : List Run) (m : Run → Run) (rest : ℕ) (positions keys : List ℕ) (start : ℕ) : Type 0 where
+pub record Placed (numbers ends : List ℕ) (rs : List Run) (m : Run → Run) (rest : ℕ) (positions : List ℕ) : Type 0 where
   pub inside : Inside numbers positions ends
-  pub size : length keys ≡ length ends
-  pub starts : start ≤ length keys
   pub runs-are : runsAt 0 numbers positions ends ≡ map (pending m rest) rs
-  pub ordered : Ordered 0 (drop start keys)
-  pub same : (g : ℕ → ℕ) → sumOf g (drop start keys) ≡ total (notNamed rest (λ r. weigh g (m r))) rs
   pub only : rest < 2 ^ length ends
 
 pub map-still : (f : Run → Run) (rs : List Run) → ((r : Run) → List·Memᴰ r rs → f r ≡ r) → map f rs ≡ rs
@@ -41,28 +37,14 @@ map-still f (r ∷ rs) h = ap₂ _∷_ (h r (List·Memᴰ·head refl)) (map-stil
 
 -- ---- the first turn
 
-pub going-start : (numbers ends positions keys : List ℕ) (start named : ℕ) (rs : List Run) (m : Run → Run) → Lacks numbers ends positions keys start rs named
-    → ((r : Run) → List·Memᴰ r rs → names named r ≡ false → m r ≡ r) → Going numbers ends rs m named positions keys start
-going-start numbers ends positions keys start named rs m l still =
-    record {
-      inside = l .inside;
-      size = l .size;
-      starts = l .starts;
-      runs-are = l .runs-are ∙ sym (map-still (pending m named) rs stays);
-      ordered = l .ordered;
-      same = λ g. l .same g ∙ total-eq (notNamed named (weigh g)) (notNamed named (λ r. weigh g (m r))) rs (weighs g);
-      only = l .only;
-    }
+pub placed-start : (numbers ends positions : List ℕ) (named : ℕ) (rs : List Run) (m : Run → Run) → Inside numbers positions ends
+    → runsAt 0 numbers positions ends ≡ rs → named < 2 ^ length ends → ((r : Run) → List·Memᴰ r rs → names named r ≡ false → m r ≡ r)
+    → Placed numbers ends rs m named positions
+placed-start numbers ends positions named rs m inside are only still =
+    record { inside = inside; runs-are = are ∙ sym (map-still (pending m named) rs stays); only = only }
   where
     stays : (r : Run) → List·Memᴰ r rs → pending m named r ≡ r
     stays r k = ⊎-elim (λ q. pending-named m named r q) (λ q. pending-moved m named r q ∙ still r k q) (both (names named r))
-
-    weighs : (g : ℕ → ℕ) (r : Run) → List·Memᴰ r rs → notNamed named (weigh g) r ≡ notNamed named (λ s. weigh g (m s)) r
-    weighs g r k =
-        ⊎-elim
-        (λ q. not-named-zero named (weigh g) r q ∙ sym (not-named-zero named (λ s. weigh g (m s)) r q))
-        (λ q. not-named-is named (weigh g) r q ∙ (ap (weigh g) (sym (still r k q)) ∙ sym (not-named-is named (λ s. weigh g (m s)) r q)))
-        (both (names named r))
 
 -- ---- the last turn
 
@@ -78,23 +60,10 @@ map-all : (f g : Run → Run) (rs : List Run) → ((r : Run) → f r ≡ g r) �
 map-all f g [] h = refl
 map-all f g (r ∷ rs) h = ap₂ _∷_ (h r) (map-all f g rs h)
 
-pub going-end : (numbers ends positions keys : List ℕ) (start rest : ℕ) (rs : List Run) (m : Run → Run) → Going numbers ends rs m rest positions keys start
-    → rest ≡ 0 → Holds numbers ends positions keys start (map m rs)
-going-end numbers ends positions keys start rest rs m g e =
-    record {
-      inside = g .inside;
-      size = g .size;
-      starts = g .starts;
-      runs-are = g .runs-are ∙ map-all (pending m rest) m rs (λ r. pending-moved m rest r (ap (λ x. names x r) e ∙ none-named r));
-      order = record {
-        ordered = g .ordered;
-        same = λ h.
-            g .same h
-            ∙ (total-eq (notNamed rest (λ r. weigh h (m r))) (λ r. weigh h (m r)) rs
-            (λ r k. not-named-is rest (λ s. weigh h (m s)) r (ap (λ x. names x r) e ∙ none-named r))
-            ∙ sym (Rattle.model.proofs.Count.total-map (weigh h) m rs));
-      };
-    }
+pub placed-end : (numbers ends positions : List ℕ) (rest : ℕ) (rs : List Run) (m : Run → Run) → Placed numbers ends rs m rest positions → rest ≡ 0
+    → runsAt 0 numbers positions ends ≡ map m rs
+placed-end numbers ends positions rest rs m p e =
+    p .runs-are ∙ map-all (pending m rest) m rs (λ r. pending-moved m rest r (ap (λ x. names x r) e ∙ none-named r))
 
 -- ---- one turn
 
@@ -103,7 +72,7 @@ unfolding weigh
 weigh-one r = ⊎-elim (λ (q : ltb (head r) pastBin ≡ true). rw (q, weigh) (omega arith)) (λ (q : ltb (head r) pastBin ≡ false). rw (q, weigh) (omega arith)) (both (ltb (head r) pastBin))
 
 -- a sum of ones over the runs that are not named, where a run is named
-some-free : (rest : ℕ) (c : Run → ℕ) (rs : List Run) → ((r : Run) → c r ≤ 1) → (j : ℕ) → j < length rs → names rest (getD rs j noRun) ≡ true
+pub some-free : (rest : ℕ) (c : Run → ℕ) (rs : List Run) → ((r : Run) → c r ≤ 1) → (j : ℕ) → j < length rs → names rest (getD rs j noRun) ≡ true
     → total (notNamed rest c) rs < length rs
 unfolding total
 some-free rest c [] h j l e = absurd (omega arith)
@@ -138,25 +107,17 @@ getD-map f [] j h = absurd (omega arith)
 getD-map f (r ∷ rs) zero h = refl
 getD-map f (r ∷ rs) (suc j) h = getD-map f rs j (omega arith)
 
-module _ (numbers ends positions keys : List ℕ) (start rest run : ℕ) (rs : List Run) (m : Run → Run) (labels : Labelled 0 rs) (number : length rs ≡ length ends)
-    (few : length ends ≤ 64) (g : Going numbers ends rs m rest positions keys start) (named : bit rest run ≡ 1) where
+module _ (numbers ends positions : List ℕ) (rest run : ℕ) (rs : List Run) (m : Run → Run) (labels : Labelled 0 rs) (number : length rs ≡ length ends)
+    (few : length ends ≤ 64) (p : Placed numbers ends rs m rest positions) (named : bit rest run ≡ 1) where
   index : run < length ends
-  index = below-only rest (length ends) run (g .only) named
+  index = below-only rest (length ends) run (p .only) named
 
   pub is-named : names rest (getD rs run noRun) ≡ true
   unfolding names
   is-named = rw (label-at rs labels run (omega (arith, index))) (let z : 0 + run ≡ run = omega arith in rw z (eq-eqb (bit rest run) 1 named))
 
-  pub going-movable : Movable numbers ends positions keys start run
-  going-movable =
-      let i = index in
-      let s = g .starts in
-      let z = g .size in
-      let f = some-free rest (λ r. weigh (λ k. 1) (m r)) rs (λ r. weigh-one (m r)) run (omega arith) is-named in
-      let o = sum-one (drop start keys) in
-      let e = g .same (λ k. 1) in
-      let d = length-drop start keys in
-      record { index = i; small = omega arith; inside = g .inside; free = omega arith; starts = s; ordered = g .ordered }
+  pub placeable : Placeable numbers ends positions run
+  placeable = let i = index in record { index = i; small = omega arith; inside = p .inside }
 
   -- the run is where it was
   pub run-is : getD rs run noRun ≡ record { label = run; bins = slice numbers (getD positions run 0) (getD ends run 0) }
@@ -166,58 +127,44 @@ module _ (numbers ends positions keys : List ℕ) (start rest run : ℕ) (rs : L
       let z : 0 + run ≡ run = omega arith in
       sym (pending-named m rest (getD rs run noRun) is-named)
       ∙ (sym (getD-map (pending m rest) rs run n)
-      ∙ (ap (λ x. getD x run noRun) (sym (g .runs-are))
-      ∙ (run-at 0 numbers positions ends run (g .inside .lengths) i
+      ∙ (ap (λ x. getD x run noRun) (sym (p .runs-are))
+      ∙ (run-at 0 numbers positions ends run (p .inside .lengths) i
       ∙ λ d. record { label = z d; bins = slice numbers (getD positions run 0) (getD ends run 0) })))
 
   -- the next turn, after the run has been moved to q
-  pub going-on : (rest′ q : ℕ) (positions′ keys′ : List ℕ) (next : ℕ) → Cleared rest rest′ run → rest′ < rest
+  pub placed-on : (rest′ q : ℕ) (positions′ : List ℕ) → Cleared rest rest′ run → rest′ < rest
       → m (getD rs run noRun) ≡ record { label = run; bins = slice numbers q (getD ends run 0) }
-      → RunMoved numbers positions keys start run q (getD ends run 0) positions′ keys′ next → Going numbers ends rs m rest′ positions′ keys′ next
-  going-on rest′ q positions′ keys′ next cleared less e moved =
+      → positions′ ≡ set positions run q → q ≤ getD ends run 0 → Placed numbers ends rs m rest′ positions′
+  placed-on rest′ q positions′ cleared less e are order =
       let i = index in
       let n : run < length rs = omega arith in
       let z : 0 + run ≡ run = omega arith in
-      let p = moved .put in
-      let o = g .only in
-      let s = p .size in
-      let gs = g .size in
+      let o = p .only in
       record {
         inside = record {
-          lengths = ap length (moved .positions-are) ∙ (length-set positions run q ∙ g .inside .lengths);
+          lengths = ap length are ∙ (length-set positions run q ∙ p .inside .lengths);
           before = λ j k. at-most j k;
-          within = g .inside .within;
+          within = p .inside .within;
         };
-        size = omega arith;
-        starts = p .starts;
         runs-are =
-            ap (λ x. runsAt 0 numbers x ends) (moved .positions-are)
-            ∙ (runs-at-set 0 numbers positions ends run q (g .inside .lengths) i
+            ap (λ x. runsAt 0 numbers x ends) are
+            ∙ (runs-at-set 0 numbers positions ends run q (p .inside .lengths) i
             ∙ ((λ d. set (runsAt 0 numbers positions ends) run (record { label = z d; bins = slice numbers q (getD ends run 0) }))
-            ∙ (ap₂ (λ x y. set x run y) (g .runs-are) (sym e) ∙ sym (state-step rs labels rest rest′ run cleared n m))));
-        ordered = subst (λ x. Ordered 0 x) (sym (p .row)) (put-ordered _ run (drop start keys) (g .ordered));
-        same = λ h.
-            ap (sumOf h) (p .row)
-            ∙ (put-sum h _ run (drop start keys) (m (getD rs run noRun)) (head-is e) (ap (λ (x : Run). x .label) e)
-            ∙ (ap (λ x. x + weigh h (m (getD rs run noRun))) (g .same h) ∙ sym (sum-step rs labels rest rest′ run cleared n (λ r. weigh h (m r)))));
+            ∙ (ap₂ (λ x y. set x run y) (p .runs-are) (sym e) ∙ sym (state-step rs labels rest rest′ run cleared n m))));
         only = omega arith;
       }
     where
-      head-is : m (getD rs run noRun) ≡ record { label = run; bins = slice numbers q (getD ends run 0) }
-          → head (m (getD rs run noRun)) ≡ headOf (slice numbers q (getD ends run 0))
-      head-is f = ap head f ∙ head-of run (slice numbers q (getD ends run 0))
-
       at-most : (j : ℕ) → j < length ends → getD positions′ j 0 ≤ getD ends j 0
       at-most j k =
-          let w = g .inside .lengths in
-          let y = ap (λ x. getD x j 0) (moved .positions-are) in
+          let w = p .inside .lengths in
+          let y = ap (λ x. getD x j 0) are in
           ⊎-elim
           (λ (f : j ≡ run).
           let a = getD-set-same positions run q 0 (omega (arith, index)) in
           let b = ap (λ x. getD (set positions run q) x 0) f in
           let c = ap (λ x. getD ends x 0) f in
-          omega (arith, moved .order))
-          (λ (f : j ≢ run). let a = getD-set-other positions run j q 0 f in let b = g .inside .before j k in omega arith)
+          omega arith)
+          (λ (f : j ≢ run). let a = getD-set-other positions run j q 0 f in let b = p .inside .before j k in omega arith)
           (eq-or-ne j run)
 
 -- ---- the run's own move

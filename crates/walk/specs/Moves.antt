@@ -1,5 +1,5 @@
 -- What the functions that move runs ask and give.
-use Prim.Native.Nat.{ℕ, _+_, _-_, _≤_, _<_}
+use Prim.Native.Nat.{ℕ, _+_, _-_, _^_, _≤_, _<_}
 use mathlib.Core.List.{List}
 use mathlib.Core.Path.{_≡_}
 use mathlib.Core.Bool.{true, false}
@@ -15,6 +15,8 @@ use Rattle.model.proofs.Heads.{Ordered}
 use Rattle.walk.specs.State.{putHead, runsAt, Inside, Holds, Lacks}
 use Rattle.walk.specs.declared.Moved.{Moved}
 use Rattle.walk.specs.declared.Moved.the-variants.{On, Spent}
+use Rattle.walk.specs.declared.Probed.{Probed}
+use Rattle.walk.specs.declared.Probed.the-variants.{Left, NoneLeft}
 
 -- there is room for one key more in front of a row
 pub record Room (numbers : List ℕ) (place end : ℕ) (keys : List ℕ) (start : ℕ) : Type 0 where
@@ -30,29 +32,25 @@ pub record PutBack (h run : ℕ) (keys : List ℕ) (start : ℕ) (after : List �
   pub starts : next ≤ length after
   pub size : length after ≡ length keys
 
--- a run that can be moved: there is room for its key
-pub record Movable (numbers ends positions keys : List ℕ) (start run : ℕ) : Type 0 where
+-- a run at its position
+pub record Placeable (numbers ends positions : List ℕ) (run : ℕ) : Type 0 where
   pub index : run < length ends
   pub small : run < 64
   pub inside : Inside numbers positions ends
-  pub free : 0 < start
-  pub starts : start ≤ length keys
-  pub ordered : Ordered 0 (drop start keys)
 
--- a run moved to place q, and its key put back
-pub record RunMoved (numbers positions keys : List ℕ) (start run q e : ℕ) (positions′ keys′ : List ℕ) (next : ℕ) : Type 0 where
-  pub positions-are : positions′ ≡ set positions run q
-  pub order : q ≤ e
-  pub put : PutBack (headOf (slice numbers q e)) run keys start keys′ next
+-- the runs are these, each at its position
+pub record PlacedAt (numbers ends : List ℕ) (rs : List Run) (positions : List ℕ) : Type 0 where
+  pub inside : Inside numbers positions ends
+  pub runs-are : runsAt 0 numbers positions ends ≡ rs
 
 -- one run searched with so many probes left
-abbrev pub SearchedRun : List ℕ → List ℕ → List ℕ → List ℕ → ℕ → ℕ → ℕ → ℕ → List ℕ → List ℕ → Moved → Type 0
-SearchedRun numbers ends positions keys start run v left positions′ keys′ (On next after) =
+abbrev pub SearchedRun : List ℕ → List ℕ → List ℕ → ℕ → ℕ → ℕ → List ℕ → Probed → Type 0
+SearchedRun numbers ends positions run v left positions′ (Left after) =
     let p = getD positions run 0 in
     let e = getD ends run 0 in
     let f = seek v (slice numbers p e) in
-    (after + (f .doublings + f .halvings) ≡ left) × RunMoved numbers positions keys start run (p + f .place) e positions′ keys′ next
-SearchedRun numbers ends positions keys start run v left positions′ keys′ Spent =
+    (after + (f .doublings + f .halvings) ≡ left) × (positions′ ≡ set positions run (p + f .place)) × (p + f .place ≤ e)
+SearchedRun numbers ends positions run v left positions′ NoneLeft =
     let f = seek v (slice numbers (getD positions run 0) (getD ends run 0)) in
     left < f .doublings + f .halvings
 
@@ -62,9 +60,27 @@ SearchedRuns numbers ends rs v left positions′ keys′ (On next after) =
     (after + probesOf (searches v rs) ≡ left) × Holds numbers ends positions′ keys′ next (map (searched v) rs)
 SearchedRuns numbers ends rs v left positions′ keys′ Spent = left < probesOf (searches v rs)
 
+-- the same, where keys are not put back
+abbrev pub SearchedEach : List ℕ → List ℕ → List Run → ℕ → ℕ → List ℕ → Probed → Type 0
+SearchedEach numbers ends rs v left positions′ (Left after) =
+    (after + probesOf (searches v rs) ≡ left) × PlacedAt numbers ends (map (searched v) rs) positions′
+SearchedEach numbers ends rs v left positions′ NoneLeft = left < probesOf (searches v rs)
+
 -- a mask names the runs whose head is below v
 pub record NamesBelow (rs : List Run) (v mask : ℕ) : Type 0 where
   pub each : (r : Run) → List·Memᴰ r rs → names mask r ≡ ltb (head r) v
+
+-- a mask names the runs whose head is below v, and no others
+pub record Searchable (numbers ends positions : List ℕ) (named v : ℕ) : Type 0 where
+  pub few : length ends ≤ 64
+  pub inside : Inside numbers positions ends
+  pub only : named < 2 ^ length ends
+  pub below : NamesBelow (runsAt 0 numbers positions ends) v named
+
+-- the keys of the runs that a mask names are not in the row
+pub record PutReady (numbers ends positions keys : List ℕ) (start named : ℕ) : Type 0 where
+  pub few : length ends ≤ 64
+  pub lacks : Lacks numbers ends positions keys start (runsAt 0 numbers positions ends) named
 
 -- the runs whose head is below v are to be searched: a mask names them and their keys are not in the row
 pub record SearchReady (numbers ends positions keys : List ℕ) (start named v : ℕ) : Type 0 where
@@ -76,17 +92,22 @@ pub record SearchReady (numbers ends positions keys : List ℕ) (start named v :
 unfoldable pub stepNamed : ℕ → Run → Run
 stepNamed mask r = elim (names mask r) [ true ↦ record { label = r .label; bins = drop 1 (r .bins) } | false ↦ r ]
 
+-- each of the runs that a mask names has a head
+pub record Steppable (numbers ends positions : List ℕ) (named : ℕ) : Type 0 where
+  pub few : length ends ≤ 64
+  pub inside : Inside numbers positions ends
+  pub only : named < 2 ^ length ends
+  pub heads : (r : Run) → List·Memᴰ r (runsAt 0 numbers positions ends) → names named r ≡ true → head r < pastBin
+
 -- the runs that a mask names are to be moved on by one: each has a head, and their keys are not in the row
 pub record StepReady (numbers ends positions keys : List ℕ) (start named : ℕ) : Type 0 where
   pub few : length ends ≤ 64
   pub lacks : Lacks numbers ends positions keys start (runsAt 0 numbers positions ends) named
   pub heads : (r : Run) → List·Memᴰ r (runsAt 0 numbers positions ends) → names named r ≡ true → head r < pastBin
 
--- ends in order, the last of them the number of numbers, and a place for each run in both rows
-pub record BeginReady (numbers ends positions keys : List ℕ) : Type 0 where
+-- ends in order, the last of them the number of numbers, and a place for each run
+pub record BeginReady (numbers ends positions : List ℕ) : Type 0 where
   pub few : length ends ≤ 64
   pub rise : fallsFrom 0 0 ends ≡ none
   pub last : lastEnd 0 ends ≡ length numbers
-  pub positions-size : length positions ≡ length ends
-  pub keys-size : length keys ≡ length ends
-  pub small : length numbers ≤ 1048576
+  pub size : length positions ≡ length ends

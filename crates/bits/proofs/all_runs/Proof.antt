@@ -3,10 +3,10 @@ use Prim.Native.Nat.{_-_, _*_, _%_, _^_}
 use lib.Pow.{pow-pos}
 use mathlib.Core.Path.{_≡_, sym, ap}
 use native.Mathlib.Omega.{arith}
 use Rattle.bits.proofs.Bits.{one-shifted}
 use borrow.Author.Needs.{needs}
-use Rattle.query.proofs.all_runs.Statement.{statement}
-use Rattle.query.proofs.all_runs.Tie as tie
+use Rattle.bits.proofs.all_runs.Statement.{statement}
+use Rattle.bits.proofs.all_runs.Tie as tie
 
 returns : tie.Need-returns
 returns c = sym (ap (λ x. 2 ^ x - 1) (c .if1 .taken))
