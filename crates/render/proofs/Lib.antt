@@ -2,3 +2,4 @@ pub mod Decimals
 pub mod Instances
 pub mod Laid
 pub mod Lines
+pub mod Parts

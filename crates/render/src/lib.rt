@@ -6,7 +6,7 @@ ghost use lib.ListN.{length};
 ghost use Rattle.fields.specs.Fields.{partOf};
 ghost use Rattle.query.specs.Outcomes.{outcomeIs};
 ghost use Rattle.render.specs.Laying.{Lays};
-ghost use Rattle.render.specs.Text.{decimal, line, partLine, partLines, partsHeld, refuseLine, rendered, Shows};
+ghost use Rattle.render.specs.Text.{decimal, numbersAfter, line, partLine, partLines, partsHeld, refuseLine, rendered, Shows};
 use fields::{Field, Part};
 use query::Outcome;
 
@@ -36,4 +36,89 @@ fn put_number(text: &mut [u8], at: usize, x: u64) -> usize
     }
     let next = put_number(text, at, x / 10);
     put(text, next, (48 + x % 10) as u8)
+}
+
+// Lays a word.
+fn put_word(text: &mut [u8], at: usize, word: &[u8]) -> usize
+    requires { ⌜ at ≤ length (now text) + 1 ⌝ }
+    ensures { λ r. ⌜ Lays (now (word .entry)) (now (text .entry)) at (now (text .exit)) r ⌝ }
+{
+    let mut next = at;
+    let mut i: usize = 0;
+    while i < word.len() {
+        next = put(text, next, word[i]);
+        i += 1;
+    }
+    next
+}
+
+// Lays a space and a number.
+fn put_after(text: &mut [u8], at: usize, x: u64) -> usize
+    ensures { λ r. ⌜ Lays (32 ∷ decimal x) (now (text .entry)) at (now (text .exit)) r ⌝ }
+{
+    let next = put(text, at, 32);
+    put_number(text, next, x)
+}
+
+// Lays the last two numbers of a line and its end.
+fn put_last(text: &mut [u8], at: usize, x: u64, y: u64) -> usize
+    ensures { λ r. ⌜ Lays (numbersAfter (x ∷ y ∷ [])) (now (text .entry)) at (now (text .exit)) r ⌝ }
+{
+    let second = put_after(text, at, x);
+    let end = put_after(text, second, y);
+    put(text, end, 10)
+}
+
+// Lays a line of a word and two numbers.
+fn put_two(text: &mut [u8], at: usize, word: &[u8], x: u64, y: u64) -> usize
+    requires { ⌜ at ≤ length (now text) + 1 ⌝ }
+    ensures { λ r. ⌜ Lays (line (now (word .entry)) (x ∷ y ∷ [])) (now (text .entry)) at (now (text .exit)) r ⌝ }
+{
+    let next = put_word(text, at, word);
+    put_last(text, next, x, y)
+}
+
+// Lays a line of a word and three numbers.
+fn put_three(text: &mut [u8], at: usize, word: &[u8], x: u64, y: u64, z: u64) -> usize
+    requires { ⌜ at ≤ length (now text) + 1 ⌝ }
+    ensures { λ r. ⌜ Lays (line (now (word .entry)) (x ∷ y ∷ z ∷ [])) (now (text .entry)) at (now (text .exit)) r ⌝ }
+{
+    let next = put_word(text, at, word);
+    let second = put_after(text, next, x);
+    put_last(text, second, y, z)
+}
+
+fn wide(x: u32) -> u64
+    ensures { λ r. ⌜ r ≡ x ⌝ }
+{
+    x as u64
+}
+
+// Lays the line of a part.
+fn put_part(text: &mut [u8], at: usize, part: Part) -> usize
+    requires { ⌜ at ≤ length (now text) + 1 ⌝ }
+    ensures { λ r. ⌜ Lays (partLine (partOf part)) (now (text .entry)) at (now (text .exit)) r ⌝ }
+{
+    match part {
+        Part::Answer { value, mask } => put_two(text, at, b"hit", wide(value), mask),
+        Part::Gap { first, last, mask } => {
+            put_three(text, at, b"gap", wide(first), wide(last), mask)
+        }
+    }
+}
+
+// Lays a line for each part, from the front of the text on.
+fn put_parts(text: &mut [u8], certificate: &[u8]) -> usize
+    ensures { λ r. ⌜ Lays (partLines (partsHeld (now (certificate .entry)))) (now (text .entry)) 0 (now (text .exit)) r ⌝ }
+{
+    let mut place: usize = 0;
+    let mut at: usize = 0;
+    while at < certificate.len() {
+        let Field::Read { part, next } = fields::read_field(certificate, at) else {
+            return place;
+        };
+        place = put_part(text, place, part);
+        at = next;
+    }
+    place
 }
