@@ -6,8 +6,11 @@ use mathlib.Core.List.{List, [], _∷_, _++_, append-assoc}
 use mathlib.Core.Path.{_≡_, refl, sym, ap, _∙_, subst}
 use native.Mathlib.Numerals.{add-one}
 use native.Mathlib.Omega.{arith}
+use Rattle.fields.specs.Fields.{partOf}
+use Rattle.fields.specs.declared.Part as code
+use Rattle.fields.specs.declared.Part.the-variants.{Answer, Gap}
 use Rattle.render.specs.Laying.{Lays}
-use Rattle.render.specs.Text.{decimal, numbersAfter, line}
+use Rattle.render.specs.Text.{decimal, numbersAfter, line, partLine}
 use Rattle.render.proofs.Decimals.{decimal-digit, decimal-more}
 use Rattle.render.proofs.Laid.{lays-then}
 
@@ -49,3 +52,16 @@ pub three-laid : (x y z : ℕ) {word l l₁ l₂ l₃ : List ℕ} {at p₁ p₂ 
     → Lays (numbersAfter (y ∷ z ∷ [])) l₂ p₂ l₃ p₃ → Lays (line word (x ∷ y ∷ z ∷ [])) l at l₃ p₃
 unfolding line numbersAfter
 three-laid x y z g h k = lays-then g (lays-then h k)
+
+-- ---- the line of a part
+
+module _ (part : code.Part) {l l₁ : List ℕ} {at p₁ : ℕ} where
+  pub hit-laid : (value named w : ℕ) → part ≡ Answer value named → w ≡ value → Lays (line (104 ∷ 105 ∷ 116 ∷ []) (w ∷ named ∷ [])) l at l₁ p₁
+      → Lays (partLine (partOf part)) l at l₁ p₁
+  unfolding partLine partOf
+  hit-laid value named w e i g = rw e (rw i at g)
+
+  pub gap-laid : (first last named v w : ℕ) → part ≡ Gap first last named → v ≡ first → w ≡ last
+      → Lays (line (103 ∷ 97 ∷ 112 ∷ []) (v ∷ w ∷ named ∷ [])) l at l₁ p₁ → Lays (partLine (partOf part)) l at l₁ p₁
+  unfolding partLine partOf
+  gap-laid first last named v w e i j g = rw e (rw (i, j) at g)

@@ -3,7 +3,7 @@
 use Prim.Native.Nat.{ℕ, zero, suc, _+_, _*_, _^_, _≤_, _<_}
 use borrow.Author.Tests.{leb-true, lt-ltb, le-ltb}
 use lib.Dec.{ltb, leb, eqb}
-use lib.ListN.{length, getD, take, drop, length-drop}
+use lib.ListN.{length, getD, take, drop, length-drop, drop-of-length-le}
 use mathlib.Core.Bool.{Bool, true, false, _&&_}
 use mathlib.Core.List.{List, [], _∷_, _++_}
 use mathlib.Core.Logic.{_⊎_, inl, inr, ⊎-elim}
@@ -23,7 +23,7 @@ use Rattle.render.proofs.Laid.{lays-none, lays-then, lays-length, lays-
 -- ---- what a field that reads is
 
 -- a body that reads is an answer's or a gap's
-Shape : List ℕ → Part → List ℕ → Type 0
+unfoldable pub Shape : List ℕ → Part → List ℕ → Type 0
 Shape body p rest =
     ((12 ≤ length body) × (answer (numberOf (take 4 body)) (numberOf (take 8 (drop 4 body))) ≡ p) × (drop 12 body ≡ rest)) ⊎
     ((16 ≤ length body) × (gap (numberOf (take 4 body)) (numberOf (take 4 (drop 4 body))) (numberOf (take 8 (drop 8 body))) ≡ p) × (drop 16 body ≡ rest))
@@ -99,16 +99,17 @@ from-none (suc n) = refl
 
 -- more fuel than bytes changes nothing
 from-same : (m n : ℕ) (bytes : List ℕ) → length bytes ≤ m → length bytes ≤ n → partsFrom m bytes ≡ partsFrom n bytes
-from-same m n [] h k = from-none m ∙ sym (from-none n)
+from-same zero n [] h k = from-none zero ∙ sym (from-none n)
 from-same zero n (x ∷ bytes) h k = absurd (omega arith)
+from-same (suc m) zero [] h k = from-none (suc m) ∙ sym (from-none zero)
 from-same (suc m) zero (x ∷ bytes) h k = absurd (omega arith)
-from-same (suc m) (suc n) (x ∷ bytes) h k =
-    reads (x ∷ bytes)
-    (λ e. from-stop m (x ∷ bytes) e ∙ sym (from-stop n (x ∷ bytes) e))
+from-same (suc m) (suc n) bytes h k =
+    reads bytes
+    (λ e. from-stop m bytes e ∙ sym (from-stop n bytes e))
     (λ p rest e.
-    let s = read-size (x ∷ bytes) rest p e in
+    let s = read-size bytes rest p e in
     let z = size-pos p in
-    from-read m (x ∷ bytes) rest p e ∙ (ap (λ ps. p ∷ ps) (from-same m n rest (omega arith) (omega arith)) ∙ sym (from-read n (x ∷ bytes) rest p e)))
+    from-read m bytes rest p e ∙ (ap (λ ps. p ∷ ps) (from-same m n rest (omega arith) (omega arith)) ∙ sym (from-read n bytes rest p e)))
 
 pub held-none : partsHeld [] ≡ []
 unfolding partsHeld
@@ -142,7 +143,7 @@ module _ {before certificate now : List ℕ} {place at : ℕ} (g : Along before 
   none-left e = g .on now place (rw e (lays-none now place (g .within)))
 
   pub along-end : length certificate ≤ at → Lays (partLines (partsHeld certificate)) before 0 now place
-  along-end h = none-left (rw (lib.Seq.drop-all at certificate h) held-none)
+  along-end h = none-left (rw (drop-of-length-le certificate h) held-none)
 
   pub along-stop : (f : Field) → f ≡ Unreadable → readingOf certificate f ≡ readField (drop at certificate)
       → Lays (partLines (partsHeld certificate)) before 0 now place
@@ -161,3 +162,8 @@ module _ {before certificate now : List ℕ} {place at : ℕ} (g : Along before 
         same = n ∙ g .same;
         within = omega arith;
       }
+
+-- the next offset is after the field
+pub next-part : (f : Field) (part : code.Part) (next at : ℕ) → f ≡ Read part next → EndsFrom at f → next ≡ at + sizeOf (partOf part)
+unfolding EndsFrom
+next-part f part next at e h = rw e at h

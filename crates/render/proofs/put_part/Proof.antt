@@ -1,11 +1,8 @@
+-- `render::put_part` lays the line of an answer or of a gap. Assumes nothing.
 use borrow.Author.Needs.{needs}
+use Rattle.render.proofs.Lines.{hit-laid, gap-laid}
 use Rattle.render.proofs.put_part.Statement.{statement}
 use Rattle.render.proofs.put_part.Tie as tie
-use Rattle.render.proofs.put_part.Reads as reads
-use Rattle.render.proofs.put_part.Lts as lts
-use Rattle.render.proofs.put_three.Reads as put-three-reads
-use Rattle.render.proofs.put_two.Reads as put-two-reads
-use Rattle.render.proofs.wide.Reads as wide-reads
 
 enum-known-part : tie.Need-enum-known-part
 enum-known-part c = search needs
@@ -38,13 +35,19 @@ same-length : tie.Need-same-length
 same-length c = search needs
 
 returns : tie.Need-returns
-returns c = ?
+returns c =
+    let g = c .before .before .before .before .before .before .before .part .given in
+    hit-laid (c .before .before .before .before .before .before .before .before .before .before .args .part) (g .0 .0) (g .0 .1 .0) (c .before .before .before .wide .result) (g .1) (c .before .before .before .wide .ensures)
+    (c .before .before .put-two .ensures)
 
 same-length-2 : tie.Need-same-length-2
 same-length-2 c = search needs
 
 returns-2 : tie.Need-returns-2
-returns-2 c = ?
+returns-2 c =
+    let g = c .before .before .before .before .before .before .before .before .part2 .given in
+    gap-laid (c .before .before .before .before .before .before .before .before .before .before .before .args .part) (g .0 .0) (g .0 .1 .0) (g .0 .1 .1 .0) (c .before .before .before .before .wide2 .result) (c .before .before .before .wide3 .result) (g .1)
+    (c .before .before .before .before .wide2 .ensures) (c .before .before .before .wide3 .ensures) (c .before .before .put-three .ensures)
 
 pub put-part-spec : {M : Type 1} → statement M
 put-part-spec =
