@@ -1,10 +1,8 @@
 -- Bytes laid into a buffer: none, bytes after bytes, and all of a text from the front on. Assumes nothing.
-use Prim.Native.Nat.{ℕ, zero, suc, _+_, _≤_, _<_, min}
+use Prim.Native.Nat.{ℕ, suc, _+_, _≤_, _<_, min}
 use borrow.Author.Tests.{le-leb, lt-leb}
-use lib.Dec.{leb}
-use lib.ListN.{length, take, drop, set, length-set, length-append}
+use lib.ListN.{length, take, set, length-set, length-append}
 use lib.Seq.{set-out}
-use mathlib.Core.Bool.{true, false}
 use mathlib.Core.List.{List, [], _∷_, _++_}
 use mathlib.Core.Logic.{⊎-elim}
 use mathlib.Core.Path.{_≡_, refl, sym, ap, _∙_}
@@ -83,25 +81,28 @@ laid-front (x ∷ l) [] = refl
 laid-front [] (b ∷ bytes) = laid-out [] 1 bytes (omega arith)
 laid-front (x ∷ l) (b ∷ bytes) = laid-tail b l 0 bytes ∙ ap (λ s. b ∷ s) (laid-front l bytes)
 
-shows-text : (text l : List ℕ) → length text ≤ length l → fitting text l ≡ Text (length text)
+pub fitting-text : (size room : ℕ) → size ≤ room → fitting size room ≡ Text size
 unfolding fitting
-shows-text text l h = rw (le-leb (length text) (length l) h, fitting)
+fitting-text size room h = rw (le-leb size room h, fitting)
 
-shows-full : (text l : List ℕ) → length l < length text → fitting text l ≡ Full
+pub fitting-full : (size room : ℕ) → room < size → fitting size room ≡ Full
 unfolding fitting
-shows-full text l h = rw (lt-leb (length text) (length l) h, fitting)
+fitting-full size room h = rw (lt-leb size room h, fitting)
 
--- the whole text is laid: its last place says whether it fits
-pub shows-fit : {text l l₁ : List ℕ} {p : ℕ} → Lays text l 0 l₁ p → p ≤ length l → Shows text l l₁ (Text p)
-shows-fit {text} {l} {l₁} {p} g h =
+-- the last place of a text that is laid whole says whether it fits
+pub shows-laid : {text l l₁ : List ℕ} {p : ℕ} {r : Rendered} → Lays text l 0 l₁ p → r ≡ fitting p (length l₁) → Shows text l l₁ r
+shows-laid {text} {l} {l₁} {p} {r} g e =
     let q = g .place in
-    let e : p ≡ length text = omega arith in
-    record { written = g .text ∙ laid-front l text; result = ap Text e ∙ sym (shows-text text l (omega arith)) }
+    let n = lays-length g in
+    record {
+      written = g .text ∙ laid-front l text;
+      result =
+          e ∙ (ap (fitting p) n
+          ∙ ⊎-elim
+          (λ (h : length l < length text). fitting-full p (length l) (omega arith) ∙ sym (fitting-full (length text) (length l) h))
+          (λ (h : length text ≤ length l). ap (λ k. fitting k (length l)) (omega arith))
+          (lt-or-le (length l) (length text)));
+    }
 
-pub shows-none : {text l l₁ : List ℕ} {p : ℕ} → Lays text l 0 l₁ p → length l < p → Shows text l l₁ Full
-shows-none {text} {l} {l₁} {p} g h =
-    let q = g .place in
-    record { written = g .text ∙ laid-front l text; result = sym (shows-full text l (omega arith)) }
-
-pub fits-shown : {text l l₁ : List ℕ} {r : Rendered} → Shows text l l₁ r → length text ≤ length l → r ≡ Text (length text)
-fits-shown {text} {l} g h = g .result ∙ shows-text text l h
+pub shown-whole : {text l l₁ : List ℕ} {r : Rendered} → Shows text l l₁ r → length text ≤ length l → r ≡ Text (length text)
+shown-whole {text} {l} g h = g .result ∙ fitting-text (length text) (length l) h

@@ -3,3 +3,5 @@ pub mod Instances
 pub mod Laid
 pub mod Lines
 pub mod Parts
+pub mod Room
+pub mod Texts

@@ -1,11 +1,10 @@
 -- Numbers, lines and parts laid into a buffer, piece by piece. Assumes nothing.
-use Prim.Native.Nat.{ℕ, suc, _+_, _/_, _%_, _≤_, _<_}
+use Prim.Native.Nat.{ℕ, _+_, _/_, _%_, _≤_, _<_}
 use lib.ListN.{length, getD, take}
 use lib.Seq.{take-suc, take-all}
-use mathlib.Core.List.{List, [], _∷_, _++_, append-assoc}
-use mathlib.Core.Path.{_≡_, refl, sym, ap, _∙_, subst}
+use mathlib.Core.List.{List, [], _∷_}
+use mathlib.Core.Path.{_≡_}
 use native.Mathlib.Numerals.{add-one}
-use native.Mathlib.Omega.{arith}
 use Rattle.fields.specs.Fields.{partOf}
 use Rattle.fields.specs.declared.Part as code
 use Rattle.fields.specs.declared.Part.the-variants.{Answer, Gap}

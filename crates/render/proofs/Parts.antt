@@ -1,13 +1,13 @@
 -- The parts that some bytes hold: the first and the rest, how many bytes each takes, and that its numbers are of 32 and of 64 bits; and the parts' lines
 -- laid one after another. Assumes nothing.
-use Prim.Native.Nat.{ℕ, zero, suc, _+_, _*_, _^_, _≤_, _<_}
+use Prim.Native.Nat.{ℕ, zero, suc, _+_, _≤_, _<_}
 use borrow.Author.Tests.{leb-true, lt-ltb, le-ltb}
-use lib.Dec.{ltb, leb, eqb}
-use lib.ListN.{length, getD, take, drop, length-drop, drop-of-length-le}
-use mathlib.Core.Bool.{Bool, true, false, _&&_}
-use mathlib.Core.List.{List, [], _∷_, _++_}
+use lib.Dec.{leb, eqb}
+use lib.ListN.{length, take, drop, length-drop, drop-of-length-le}
+use mathlib.Core.Bool.{true, false, _&&_}
+use mathlib.Core.List.{List, [], _∷_}
 use mathlib.Core.Logic.{_⊎_, inl, inr, ⊎-elim}
-use mathlib.Core.Path.{_≡_, refl, sym, ap, _∙_, subst}
+use mathlib.Core.Path.{_≡_, refl, sym, ap, _∙_}
 use native.Mathlib.Omega.{arith}
 use Rattle.fields.specs.Fields.{partOf, readingOf, EndsFrom}
 use Rattle.fields.specs.declared.Field.{Field}
@@ -77,7 +77,7 @@ read-size bytes rest p e =
 
 -- ---- the parts that bytes hold
 
-reads : (bytes : List ℕ) {A : Type 0} → (readField bytes ≡ unreadable → A) → ((p : Part) (rest : List ℕ) → readField bytes ≡ read p rest → A) → A
+pub reads : (bytes : List ℕ) {A : Type 0} → (readField bytes ≡ unreadable → A) → ((p : Part) (rest : List ℕ) → readField bytes ≡ read p rest → A) → A
 reads bytes {A} f g = go (readField bytes) refl
   where
     go : (r : Reading) → readField bytes ≡ r → A

@@ -5,7 +5,7 @@ use mathlib.Core.List.{List, [], _∷_, _++_}
 use mathlib.Core.Path.{_≡_}
 use lib.Dec.{ltb, leb}
 use lib.ListN.{length, take}
-use Rattle.model.specs.Certificate.{Part, answer, gap, Reading, unreadable, read, readField}
+use Rattle.model.specs.Certificate.{Part, answer, gap, unreadable, read, readField}
 use Rattle.model.specs.Refusals.{Outcome, accepted, refused, over}
 use Rattle.render.specs.declared.Rendered.{Rendered}
 use Rattle.render.specs.declared.Rendered.the-variants.{Text, Full}
@@ -59,9 +59,9 @@ rendered (refused number place answers bytes probes) certificate = refuseLine nu
 
 -- A text in a buffer: what fits is written from the front, and the rest of the buffer is unchanged. The result is the text's length, or that it does
 -- not fit.
-unfoldable pub fitting : List ℕ → List ℕ → Rendered
-fitting text buffer = elim (leb (length text) (length buffer)) [ true ↦ Text (length text) | false ↦ Full ]
+unfoldable pub fitting : ℕ → ℕ → Rendered
+fitting size room = elim (leb size room) [ true ↦ Text size | false ↦ Full ]
 
 pub record Shows (text before after : List ℕ) (r : Rendered) : Type 0 where
   pub written : after ≡ over (take (length before) text) before
-  pub result : r ≡ fitting text before
+  pub result : r ≡ fitting (length text) (length before)

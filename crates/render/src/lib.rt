@@ -1,13 +1,15 @@
 // The text that the program hits prints (document 01, 'The program hits').
 ghost use mathlib.Core.Path.{_≡_};
 ghost use mathlib.Core.List.{_∷_, []};
-ghost use Prim.Native.Nat.{_+_, _*_, _≤_};
+ghost use Prim.Native.Nat.{_+_, _*_, _≤_, min};
 ghost use lib.ListN.{length};
 ghost use Rattle.fields.specs.Fields.{partOf};
+ghost use Rattle.model.specs.Refusals.{accepted};
 ghost use Rattle.query.specs.Outcomes.{outcomeIs};
 ghost use Rattle.render.specs.Laying.{Lays};
-ghost use Rattle.render.specs.Text.{decimal, numbersAfter, line, partLine, partLines, partsHeld, refuseLine, rendered, Shows};
-use fields::{Field, Part};
+ghost use Rattle.render.specs.Text.{decimal, numbersAfter, line, partLine, partLines, partsHeld, refuseLine, rendered, fitting, Shows};
+use fields::Field;
+use fields::Part;
 use query::Outcome;
 
 // The text's length, or that it does not fit the buffer.
@@ -121,4 +123,88 @@ fn put_parts(text: &mut [u8], certificate: &[u8]) -> usize
         at = next;
     }
     place
+}
+
+// The result for a text that ends at the place `end` of a buffer of `room` bytes.
+fn shown(end: usize, room: usize) -> Rendered
+    ensures { λ r. ⌜ r ≡ fitting end room ⌝ }
+{
+    if end <= room {
+        return Rendered::Text(end);
+    }
+    Rendered::Full
+}
+
+fn least(a: usize, b: usize) -> usize
+    ensures { λ r. ⌜ r ≡ min a b ⌝ }
+{
+    if a <= b { a } else { b }
+}
+
+fn wide_size(x: usize) -> u64
+    ensures { λ r. ⌜ r ≡ x ⌝ }
+{
+    x as u64
+}
+
+fn wide_byte(x: u8) -> u64
+    ensures { λ r. ⌜ r ≡ x ⌝ }
+{
+    x as u64
+}
+
+// Writes the text of a refused input or question.
+pub fn refuse(number: u8, place: usize, text: &mut [u8]) -> Rendered
+    ensures shows { λ r. ⌜ Shows (refuseLine number place) (now (text .entry)) (now (text .exit)) r ⌝ }
+    ensures enough { λ r. ⌜ (64 ≤ length (now (text .entry)) → r ≡ Rendered.Text (length (refuseLine number place))) ⌝ }
+{
+    let end = put_two(text, 0, b"refuse", wide_byte(number), wide_size(place));
+    shown(end, text.len())
+}
+
+// Writes the text of an accepted question, whose certificate is the first `bytes` bytes of a buffer.
+fn accept(
+    answers: usize,
+    parts: usize,
+    bytes: usize,
+    probes: u32,
+    certificate: &[u8],
+    text: &mut [u8],
+) -> Rendered
+    ensures shows { λ r. ⌜ Shows (rendered (accepted answers parts bytes probes) (now (certificate .entry))) (now (text .entry)) (now (text .exit)) r ⌝ }
+    ensures enough { λ r. ⌜ (4 * length (now (certificate .entry)) + 64 ≤ length (now (text .entry)) → r ≡ Rendered.Text (length (rendered (accepted answers parts bytes probes) (now (certificate .entry))))) ⌝ }
+{
+    let n = least(bytes, certificate.len());
+    let next = put_parts(text, &certificate[0..n]);
+    let end = put_three(
+        text,
+        next,
+        b"done",
+        wide_size(answers),
+        wide_size(parts),
+        wide(probes),
+    );
+    shown(end, text.len())
+}
+
+// Writes the text that the program hits prints for an outcome and the certificate buffer of the question.
+pub fn render(outcome: Outcome, certificate: &[u8], text: &mut [u8]) -> Rendered
+    ensures shows { λ r. ⌜ Shows (rendered (outcomeIs outcome) (now (certificate .entry))) (now (text .entry)) (now (text .exit)) r ⌝ }
+    ensures enough { λ r. ⌜ (4 * length (now (certificate .entry)) + 64 ≤ length (now (text .entry)) → r ≡ Rendered.Text (length (rendered (outcomeIs outcome) (now (certificate .entry))))) ⌝ }
+{
+    match outcome {
+        Outcome::Accepted {
+            answers,
+            parts,
+            bytes,
+            probes,
+        } => accept(answers, parts, bytes, probes, certificate, text),
+        Outcome::Refused {
+            number,
+            place,
+            answers: _,
+            bytes: _,
+            probes: _,
+        } => refuse(number, place, text),
+    }
 }

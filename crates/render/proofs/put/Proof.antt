@@ -1,6 +1,5 @@
 -- `render::put` lays one byte: it fits or it does not. Assumes nothing.
 use borrow.Author.Needs.{needs}
-use native.Mathlib.Omega.{arith}
 use Rattle.render.proofs.Laid.{lays-here, lays-out}
 use Rattle.render.proofs.put.Statement.{statement}
 use Rattle.render.proofs.put.Tie as tie
