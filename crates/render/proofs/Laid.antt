@@ -1,8 +1,8 @@
 -- Bytes laid into a buffer: none, bytes after bytes, and all of a text from the front on. Assumes nothing.
 use Prim.Native.Nat.{ℕ, suc, _+_, _≤_, _<_, min}
 use borrow.Author.Tests.{le-leb, lt-leb}
-use lib.ListN.{length, take, set, length-set, length-append}
-use lib.Seq.{set-out}
+use lib.ListN.{length, take, drop, set, length-set, length-append}
+use lib.Seq.{set-out, take-all, take-append-seam}
 use mathlib.Core.List.{List, [], _∷_, _++_}
 use mathlib.Core.Logic.{⊎-elim}
 use mathlib.Core.Path.{_≡_, refl, sym, ap, _∙_}
@@ -106,3 +106,18 @@ shows-laid {text} {l} {l₁} {p} {r} g e =
 
 pub shown-whole : {text l l₁ : List ℕ} {r : Rendered} → Shows text l l₁ r → length text ≤ length l → r ≡ Text (length text)
 shown-whole {text} {l} g h = g .result ∙ fitting-text (length text) (length l) h
+
+-- a text that fits lies within the buffer, whose first bytes it then is
+pub shown-text : {text l l₁ : List ℕ} {n : ℕ} → Shows text l l₁ (Text n) → (n ≤ length l) × (take n l₁ ≡ text)
+unfolding over
+shown-text {text} {l} {l₁} {n} g =
+    ⊎-elim
+    (λ (h : length l < length text).
+    let e : Text n ≡ Full = g .result ∙ fitting-full (length text) (length l) h in
+    absurd (let z : _≡_ {A = ℕ} 0 1 = cc in omega arith))
+    (λ (h : length text ≤ length l).
+    let e : Text n ≡ Text (length text) = g .result ∙ fitting-text (length text) (length l) h in
+    let i : n ≡ length text = cc in
+    let w : l₁ ≡ text ++ drop (length text) l = g .written ∙ ap (λ s. over s l) (take-all (length l) text h) in
+    (omega arith, rw (i, w) (take-append-seam text (drop (length text) l))))
+    (lt-or-le (length l) (length text))

@@ -44,14 +44,20 @@ same-length c = search needs
 
 returns : tie.Need-returns
 returns c =
-    let u = c .before .before .before .before .before .before .before .before .before .before .before .before .before .before .before .before .before in
+    let line = c .before .before .before in
+    let counts = line .before in
+    let lines = counts .before .before .before .before .before .before .before in
+    let size = lines .before .before .before in
+    let u = size .before .before .before in
     let a = u .args in
-    let s = shows-laid
-    (done-laid (a .answers) (a .parts) (a .bytes) (a .probes) (a .certificate .now) (c .before .before .before .before .before .before .before .before .before .before .before .before .before .before .least .ensures) (c .before .before .before .before .before .before .before .before .before .before .before .put-parts .ensures)
-    (c .before .before .before .before .before .before .wide-size .ensures) (c .before .before .before .before .before .wide-size2 .ensures) (c .before .before .before .before .wide .ensures) (c .before .before .before .put-three .ensures))
+    let s =
+    shows-laid
+    (done-laid (a .answers) (a .parts) (a .bytes) (a .probes) (a .certificate .now) (size .least .ensures) (lines .put-parts .ensures)
+    (counts .before .before .wide-size .ensures) (counts .before .wide-size2 .ensures) (counts .wide .ensures) (line .put-three .ensures))
     (c .shown .ensures) in
-    let f = fits 256 (a .certificate .now) (λ i. c .before .before .before .before .before .before .before .before .before .before .before .before .before .before .before .before .shared-slice-known .given i .fits) in
-    (s, accept-whole (a .answers) (a .parts) (a .bytes) (a .probes) (a .certificate .now) f (u .fits .answers .fits) (u .fits .parts .fits) (u .fits .probes .fits) s)
+    let f = fits 256 (a .certificate .now) (λ i. size .before .before .shared-slice-known .given i .fits) in
+    let n = u .fits in
+    (s, accept-whole (a .answers) (a .parts) (a .bytes) (a .probes) (a .certificate .now) f (n .answers .fits) (n .parts .fits) (n .probes .fits) s)
 
 pub accept-spec : {M : Type 1} → statement M
 accept-spec =

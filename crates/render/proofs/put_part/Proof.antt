@@ -36,18 +36,22 @@ same-length c = search needs
 
 returns : tie.Need-returns
 returns c =
-    let g = c .before .before .before .before .before .before .before .part .given in
-    hit-laid (c .before .before .before .before .before .before .before .before .before .before .args .part) (g .0 .0) (g .0 .1 .0) (c .before .before .before .wide .result) (g .1) (c .before .before .before .wide .ensures)
-    (c .before .before .put-two .ensures)
+    let line = c .before .before in
+    let w = line .before .wide in
+    let g = line .before .before .before .before .before .part .given in
+    hit-laid (line .before .before .before .before .before .before .before .before .args .part) (g .0 .0) (g .0 .1 .0) (w .result) (g .1) (w .ensures) (line .put-two .ensures)
 
 same-length-2 : tie.Need-same-length-2
 same-length-2 c = search needs
 
 returns-2 : tie.Need-returns-2
 returns-2 c =
-    let g = c .before .before .before .before .before .before .before .before .part2 .given in
-    gap-laid (c .before .before .before .before .before .before .before .before .before .before .before .args .part) (g .0 .0) (g .0 .1 .0) (g .0 .1 .1 .0) (c .before .before .before .before .wide2 .result) (c .before .before .before .wide3 .result) (g .1)
-    (c .before .before .before .before .wide2 .ensures) (c .before .before .before .wide3 .ensures) (c .before .before .put-three .ensures)
+    let line = c .before .before in
+    let v = line .before .before .wide2 in
+    let w = line .before .wide3 in
+    let g = line .before .before .before .before .before .before .part2 .given in
+    gap-laid (line .before .before .before .before .before .before .before .before .before .args .part) (g .0 .0) (g .0 .1 .0) (g .0 .1 .1 .0) (v .result) (w .result) (g .1) (v .ensures) (w .ensures)
+    (line .put-three .ensures)
 
 pub put-part-spec : {M : Type 1} → statement M
 put-part-spec =
