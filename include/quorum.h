@@ -71,7 +71,7 @@ enum {
  * then the answers, parts and certificate bytes written and the probes made.
  * After refusals 5 to 7 what was written stands; 1 to 4 write nothing. Later
  * places of both buffers are unchanged. For n numbers, n answers and 34n + 19
- * bytes are always enough.
+ * bytes are always enough: then 5 and 6 never occur (proved: `room-enough`).
  *
  * Cost: one pass over the numbers for the first checks. Then, in a run whose
  * length has b binary digits, at most 2 * d * b probes, d being the number of

@@ -287,7 +287,7 @@ unfolding maskOf
 true-mask {rs} (gap-true {m = m} q) = only-below m (length rs) (q .only)
 true-mask {rs} (answer-true {m = m} q) = only-below m (length rs) (q .only)
 
-in-range : {rs : List Run} {t b : ℕ} {p : Part} {ps : List Part} → Covers b (p ∷ ps) → TruePart rs t p → length rs ≤ 64 → InRange p
+pub in-range : {rs : List Run} {t b : ℕ} {p : Part} {ps : List Part} → Covers b (p ∷ ps) → TruePart rs t p → length rs ≤ 64 → InRange p
 in-range {rs} {p = p} {ps = ps} c h k =
     let i = covers-past (suc (lastOf p)) ps (covers-rest c) in
     let l = covers-order c in

@@ -5,6 +5,7 @@ pub mod Cutting
 pub mod Demands
 pub mod Digits
 pub mod Encoding
+pub mod Enough
 pub mod Events
 pub mod Exact
 pub mod Fewest

@@ -1,0 +1,257 @@
+-- Buffers that are always enough. A round leaves at least one number of some run behind it for good and writes at most a gap and an answer, 34 bytes, and
+-- the last round writes one gap of 19 bytes. So for n numbers a walk writes at most n answers and 34 × n + 19 bytes, and with that much room refusals 5
+-- and 6 never occur. Assumes nothing.
+use Prim.Native.Nat.{ℕ, zero, suc, _+_, _-_, _*_, _≤_, _<_}
+use borrow.Author.Tests.{le-ltb, lt-leb, eq-eqb, ne-eqb}
+use lib.Dec.{leb, eqb}
+use lib.ListN.{length, drop, length-take}
+use mathlib.Core.Bool.{Bool, true, false}
+use mathlib.Core.List.{List, [], _∷_}
+use mathlib.Core.Logic.{_⊎_, inl, inr, ⊎-elim, _≢_}
+use mathlib.Core.Option.{Option, none, some}
+use mathlib.Core.Path.{_≡_, refl, ap, _∙_}
+use native.Mathlib.Omega.{arith}
+use Rattle.model.specs.Certificate.{Part, answer, gap, answersOf, sizeOf}
+use Rattle.model.specs.Compared.{wholeWalk, partsOf}
+use Rattle.model.specs.Demands.{Fits}
+use Rattle.model.specs.Refusals.{Check, passed, refusal, _then_, refuseIf, refuseAt, fallsFrom, lastEnd, firstChecks, Room, met, after, cut, cutWalk, refused, outcomeOf, query}
+use Rattle.model.specs.Runs.{Run, firstBin, pastBin, runsFrom, runs, total, one, count}
+use Rattle.model.specs.Walk.{Event, sought, doubled, halved, wrote, headOf, head}
+use Rattle.model.proofs.Count.{total-le, total-add, count-map}
+use Rattle.model.proofs.Cutting.{cut-on, cut-here}
+use Rattle.model.proofs.Demands.{whole-walked}
+use Rattle.model.proofs.Events.{parts-round}
+use Rattle.model.proofs.FirstChecks.{first-passed, fit, not-fallen}
+use Rattle.model.proofs.From.{from, from-pass, from-stop, from-nil, from-from, from-length, head-nil, head-cons}
+use Rattle.model.proofs.Heads.{atMost}
+use Rattle.model.proofs.Tests.{lt-or-le, eq-or-ne}
+use Rattle.model.proofs.Walking.{fromRun, at, equal, gapAt, answerAt, Walked, over, stop, pass, hit, hit-here}
+
+-- ---- numbers left
+
+-- the numbers of all runs from a floor on
+unfoldable left : ℕ → List Run → ℕ
+left f rs = total (λ r. length (from f (r .bins))) rs
+
+one-most : (b : Bool) → one b ≤ 1
+unfolding one
+one-most true = omega arith
+one-most false = omega arith
+
+-- a run whose head is not above v either has v for its head or leaves a number behind on the way to v
+head-passed : (v : ℕ) (s : List ℕ) → v < pastBin → length (from v s) + one (leb (headOf s) v) ≤ length s + one (eqb (headOf (from v s)) v)
+unfolding one
+head-passed v [] b = rw (from-nil v, head-nil, lt-leb pastBin v b) (omega arith)
+head-passed v (x ∷ s) b =
+    ⊎-elim
+    (λ (h : x < v).
+    let k = from-length v s in
+    let m = one-most (leb (headOf (x ∷ s)) v) in
+    rw (from-pass v x s h) (omega arith))
+    (λ (h : v ≤ x).
+    rw (from-stop v x s h, head-cons x s)
+    (⊎-elim
+    (λ (e : x ≡ v). rw (eq-eqb x v e) (let m = one-most (leb x v) in omega arith))
+    (λ (e : x ≢ v). let i : v < x = omega arith in rw (lt-leb x v i) (omega arith))
+    (eq-or-ne x v)))
+    (lt-or-le x v)
+
+-- a run with the head v leaves it behind
+head-left : (v : ℕ) (s : List ℕ) → v < pastBin → length (from (suc v) s) + one (eqb (headOf s) v) ≤ length s
+unfolding one
+head-left v [] b = let n : pastBin ≢ v = omega arith in rw (from-nil (suc v), head-nil, ne-eqb pastBin v n) (omega arith)
+head-left v (x ∷ s) b =
+    rw (head-cons x s)
+    (⊎-elim
+    (λ (e : x ≡ v).
+    let i : x < suc v = omega arith in
+    let k = from-length (suc v) s in
+    let m = one-most (eqb x v) in
+    rw (from-pass (suc v) x s i) (omega arith))
+    (λ (e : x ≢ v). rw (ne-eqb x v e) (let k = from-length (suc v) (x ∷ s) in omega arith))
+    (eq-or-ne x v))
+
+left-moved : (rs : List Run) (f v : ℕ) → f ≤ v → v < pastBin → left v rs + atMost v (at f rs) ≤ left f rs + equal v (at v rs)
+unfolding left atMost equal count at head fromRun
+left-moved rs f v l b =
+    let k = total-le (λ r. length (from v (r .bins)) + one (leb (headOf (from f (r .bins))) v))
+    (λ r. length (from f (r .bins)) + one (eqb (headOf (from v (r .bins))) v)) rs
+    (λ r m. rw (← from-from f v (r .bins) l) (head-passed v (from f (r .bins)) b)) in
+    let a = total-add (λ r. length (from v (r .bins))) (λ r. one (leb (headOf (from f (r .bins))) v)) rs in
+    let c = total-add (λ r. length (from f (r .bins))) (λ r. one (eqb (headOf (from v (r .bins))) v)) rs in
+    let d = count-map (λ r. leb (headOf (r .bins)) v) (fromRun f) rs in
+    let e = count-map (λ r. eqb (headOf (r .bins)) v) (fromRun v) rs in
+    omega arith
+
+left-answered : (rs : List Run) (v : ℕ) → v < pastBin → left (suc v) rs + equal v (at v rs) ≤ left v rs
+unfolding left equal count at head fromRun
+left-answered rs v b =
+    let k = total-le (λ r. length (from (suc v) (r .bins)) + one (eqb (headOf (from v (r .bins))) v)) (λ r. length (from v (r .bins))) rs
+    (λ r m. rw (← from-from v (suc v) (r .bins) (omega arith)) (head-left v (from v (r .bins)) b)) in
+    let a = total-add (λ r. length (from (suc v) (r .bins))) (λ r. one (eqb (headOf (from v (r .bins))) v)) rs in
+    let e = count-map (λ r. eqb (headOf (r .bins)) v) (fromRun v) rs in
+    omega arith
+
+left-falls : (rs : List Run) (f v : ℕ) → f ≤ v → left v rs ≤ left f rs
+unfolding left
+left-falls rs f v l =
+    total-le _ _ rs (λ r m. rw (← from-from f v (r .bins) l) (from-length v (from f (r .bins))))
+
+-- ---- what a walk writes
+
+-- the bytes of some parts
+unfoldable sizes : List Part → ℕ
+sizes [] = 0
+sizes (p ∷ ps) = sizeOf p + sizes ps
+
+record Needs (es : List Event) (n : ℕ) : Type 0 where
+  answers : length (answersOf (partsOf es)) ≤ n
+  bytes : sizes (partsOf es) ≤ 34 * n + 19
+
+needs-parts : {es : List Event} {n : ℕ} (ps : List Part) → partsOf es ≡ ps → length (answersOf ps) ≤ n → sizes ps ≤ 34 * n + 19 → Needs es n
+needs-parts ps e h k = record { answers = rw e h; bytes = rw e k }
+
+walk-needs : {rs : List Run} {t f : ℕ} {es : List Event} → 0 < t → Walked rs t f es → Needs es (left f rs)
+unfolding partsOf answersOf sizes sizeOf gapAt answerAt
+walk-needs p (over e) = record { answers = omega arith; bytes = omega arith }
+walk-needs p (stop l h) = record { answers = omega arith; bytes = omega arith }
+walk-needs {rs} {f = f} p (pass {v = v} {es = es} l a q w) =
+    let k = walk-needs p w in
+    let m = left-moved rs f v (omega arith) (a .bin) in
+    let n = a .enough in
+    needs-parts _ (parts-round (gapAt rs f v (v - 1)) v (at f rs) es) (omega (arith, k .answers)) (omega (arith, k .bytes))
+walk-needs {rs} {f = f} p (hit {v = v} {es = es} l a q w) =
+    let k = walk-needs p w in
+    let m = left-answered rs v (a .bin) in
+    let n = left-falls rs f v (omega arith) in
+    needs-parts _ (parts-round (gapAt rs f v (v - 1)) v (at f rs) (wrote (answerAt rs v) ∷ es)) (omega (arith, k .answers)) (omega (arith, k .bytes))
+walk-needs {rs} {f = f} p (hit-here {es = es} a q w) =
+    let k = walk-needs p w in
+    let m = left-answered rs f (a .bin) in
+    record { answers = omega (arith, k .answers); bytes = omega (arith, k .bytes) }
+
+-- ---- the runs have no more numbers than the row
+
+runs-numbers : (i a j : ℕ) (numbers ends : List ℕ) → fallsFrom a j ends ≡ none
+    → a + total (λ r. length (r .bins)) (runsFrom i a numbers ends) ≤ lastEnd a ends
+unfolding runsFrom total lastEnd
+runs-numbers i a j numbers [] h = omega arith
+runs-numbers i a j numbers (e ∷ ends) h =
+    let n = not-fallen a j e ends h in
+    let k = runs-numbers (suc i) e (suc j) numbers ends (n .1) in
+    let l = length-take (e - a) (drop a numbers) in
+    omega (arith, n .0)
+
+left-most : (f : ℕ) (rs : List Run) → left f rs ≤ total (λ r. length (r .bins)) rs
+unfolding left
+left-most f rs = total-le _ _ rs (λ r m. from-length f (r .bins))
+
+-- ---- a walk with that much room
+
+Roomy : Room → List Event → Type 0
+Roomy room es = (cut room es .refused ≡ 0) ⊎ (cut room es .refused ≡ 7)
+
+roomy-on : (room : Room) (e : Event) (es : List Event) → met room e ≡ 0 → Roomy (after room e) es → Roomy room (e ∷ es)
+unfolding Roomy
+roomy-on room e es i k = rw (cut-on room e es i) k
+
+roomy-spent : (room : Room) (e : Event) (es : List Event) → met room e ≡ 7 → Roomy room (e ∷ es)
+unfolding Roomy
+roomy-spent room e es i = inr (ap (λ x. x .refused) (cut-here room 6 e es i))
+
+cut-roomy : (room : Room) (es : List Event) → length (answersOf (partsOf es)) ≤ room .answers → sizes (partsOf es) ≤ room .bytes → Roomy room es
+unfolding Roomy cut met after partsOf answersOf sizes sizeOf
+cut-roomy room [] h k = inl refl
+cut-roomy room (sought i ∷ es) h k = roomy-on room (sought i) es refl (cut-roomy room es h k)
+cut-roomy room (doubled i ∷ es) h k =
+    ⊎-elim
+    (λ (e : room .probes ≡ 0). roomy-spent room (doubled i) es (rw (eq-eqb (room .probes) 0 e, met)))
+    (λ (e : room .probes ≢ 0). roomy-on room (doubled i) es (rw (ne-eqb (room .probes) 0 e, met)) (cut-roomy (after room (doubled i)) es h k))
+    (eq-or-ne (room .probes) 0)
+cut-roomy room (halved i ∷ es) h k =
+    ⊎-elim
+    (λ (e : room .probes ≡ 0). roomy-spent room (halved i) es (rw (eq-eqb (room .probes) 0 e, met)))
+    (λ (e : room .probes ≢ 0). roomy-on room (halved i) es (rw (ne-eqb (room .probes) 0 e, met)) (cut-roomy (after room (halved i)) es h k))
+    (eq-or-ne (room .probes) 0)
+cut-roomy room (wrote (answer v m) ∷ es) h k =
+    let n : room .answers ≢ 0 = omega arith in
+    let l : 15 ≤ room .bytes = omega arith in
+    roomy-on room (wrote (answer v m)) es (rw (ne-eqb (room .answers) 0 n, le-ltb (room .bytes) 15 l, met))
+    (cut-roomy (after room (wrote (answer v m))) es (omega arith) (omega arith))
+cut-roomy room (wrote (gap f l m) ∷ es) h k =
+    let n : 19 ≤ room .bytes = omega arith in
+    roomy-on room (wrote (gap f l m)) es (rw (le-ltb (room .bytes) 19 n, met))
+    (cut-roomy (after room (wrote (gap f l m))) es h (omega arith))
+
+-- an ended walk that 5 and 6 did not end is refused as 7 only
+ended-roomy : (es : List Event) (r n p a b q : ℕ) → (r ≡ 0) ⊎ (r ≡ 7) → outcomeOf (record { events = es; refused = r }) ≡ refused n p a b q → n ≡ 7
+unfolding outcomeOf
+ended-roomy es zero n p a b q h o = absurd (let z : _≡_ {A = ℕ} 0 1 = cc in omega arith)
+ended-roomy es (suc r) n p a b q h o =
+    let e : suc r ≡ n = cc in
+    ⊎-elim (λ (i : suc r ≡ 0). absurd (omega arith)) (λ (i : suc r ≡ 7). omega arith) h
+
+-- ---- the first checks refuse by 1 to 4
+
+record Door (c : Check) : Type 0 where
+  numbers : (n p : ℕ) → c ≡ refusal n p → (1 ≤ n) × (n ≤ 4)
+
+door-then : (a b : Check) → Door a → Door b → Door (a then b)
+unfolding _then_
+door-then passed b g h = h
+door-then (refusal n p) b g h = g
+
+door-if : (b : Bool) (n p : ℕ) → 1 ≤ n → n ≤ 4 → Door (refuseIf b n p)
+unfolding refuseIf
+door-if true n p h k = record { numbers = λ m q e. let i : n ≡ m = cc in (omega arith, omega arith) }
+door-if false n p h k = record { numbers = λ m q e. absurd (let z : _≡_ {A = ℕ} 0 1 = cc in omega arith) }
+
+door-at : (n : ℕ) (o : Option ℕ) → 1 ≤ n → n ≤ 4 → Door (refuseAt n o)
+unfolding refuseAt
+door-at n (some p) h k = record { numbers = λ m q e. let i : n ≡ m = cc in (omega arith, omega arith) }
+door-at n none h k = record { numbers = λ m q e. absurd (let z : _≡_ {A = ℕ} 0 1 = cc in omega arith) }
+
+door : (numbers ends : List ℕ) (t : ℕ) → Door (firstChecks numbers ends t)
+unfolding firstChecks
+door numbers ends t =
+    door-then _ _ (door-if _ 1 _ (omega arith) (omega arith))
+    (door-then _ _ (door-if _ 2 _ (omega arith) (omega arith))
+    (door-then _ _ (door-at 3 _ (omega arith) (omega arith))
+    (door-then _ _ (door-if _ 3 _ (omega arith) (omega arith)) (door-at 4 _ (omega arith) (omega arith)))))
+
+-- ---- the law
+
+module _ (numbers ends : List ℕ) (t allowance : ℕ) (answers certificate : List ℕ) (bins : Fits pastBin numbers)
+    (room : length numbers ≤ length answers) (bytes : 34 * length numbers + 19 ≤ length certificate) where
+  walk-roomy : firstChecks numbers ends t ≡ passed
+      → Roomy (record { probes = allowance; answers = length answers; bytes = length certificate }) (wholeWalk t (runs numbers ends))
+  unfolding runs
+  walk-roomy e =
+      let g = fit numbers ends t bins e in
+      let p = first-passed numbers ends t e in
+      let k = walk-needs (g .some) (whole-walked g) in
+      let n = runs-numbers 0 0 0 numbers ends (p .ends-rise) in
+      let l = left-most firstBin (runs numbers ends) in
+      let z = p .ends-last in
+      cut-roomy _ (wholeWalk t (runs numbers ends)) (omega (arith, k .answers)) (omega (arith, k .bytes))
+
+  -- A question that passes the first checks is accepted or refused as 7: refusals 5 and 6 never occur.
+  pub room-enough : firstChecks numbers ends t ≡ passed → (n p a b q : ℕ)
+      → query numbers ends t allowance answers certificate .outcome ≡ refused n p a b q → n ≡ 7
+  unfolding query cutWalk Roomy
+  room-enough e n p a b q o =
+      let ended = cutWalk t (runs numbers ends) allowance (length answers) (length certificate) in
+      ended-roomy (ended .events) (ended .refused) n p a b q (walk-roomy e) (rw (e, query) at o)
+
+  -- Of any question that is refused the number is 1, 2, 3, 4 or 7.
+  pub refused-numbers : (n p a b q : ℕ) → query numbers ends t allowance answers certificate .outcome ≡ refused n p a b q
+      → ((1 ≤ n) × (n ≤ 4)) ⊎ (n ≡ 7)
+  unfolding query
+  refused-numbers n p a b q o = go (firstChecks numbers ends t) refl
+    where
+      go : (c : Check) → firstChecks numbers ends t ≡ c → ((1 ≤ n) × (n ≤ 4)) ⊎ (n ≡ 7)
+      go passed e = inr (room-enough e n p a b q o)
+      go (refusal m r) e =
+          let s : refused m r 0 0 0 ≡ refused n p a b q = rw (e, query) at o in
+          let i : m ≡ n = cc in
+          inl (door numbers ends t .numbers n r (e ∙ ap (λ x. refusal x r) i))
