@@ -1,0 +1,1 @@
+// The input text of the program hits (document 01, 'The program hits').
