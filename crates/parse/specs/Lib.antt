@@ -1,2 +1,3 @@
 pub mod Instances
+pub mod Steps
 pub mod Text

@@ -1,6 +1,6 @@
 -- Document 01, 'The program hits': the input text as a question, or refusal 12 with the number of the first line at fault. Definitions only.
 use Prim.Native.Nat.{ℕ, zero, suc, _+_, _-_, _*_}
-use mathlib.Core.Bool.{Bool, true, false, _&&_, _||_, not}
+use mathlib.Core.Bool.{Bool, true, false, _&&_, _||_}
 use mathlib.Core.List.{List, [], _∷_, _++_}
 use mathlib.Core.Option.{Option, none, some}
 use lib.Dec.{ltb, leb, eqb}
@@ -85,20 +85,26 @@ pub record Limits : Type 0 where
   pub numbers : ℕ
 
 -- A run's line is at fault if it is not of the form, or is one run too many, or has one number too many of all the runs together. What
--- follows the last line end is at fault if there is a byte, which may be one past the limit of bytes (`longer`).
+-- follows the last line end is at fault if there is a byte.
 -- (Here: the lines after i runs with n numbers, so that the first of them is line i + 2.)
-unfoldable pub linesFrom : Limits → Bool → ℕ → ℕ → List (List ℕ) → Lines
-linesFrom limits longer i n [] = runsAre []
-linesFrom limits longer i n (line ∷ []) = elim (longer || not (eqb (length line) 0)) [ true ↦ faultAt (i + 2) | false ↦ runsAre [] ]
-linesFrom limits longer i n (line ∷ next ∷ lines) =
+unfoldable pub linesFrom : Limits → ℕ → ℕ → List (List ℕ) → Lines
+linesFrom limits i n [] = runsAre []
+linesFrom limits i n (line ∷ []) = elim (eqb (length line) 0) [ true ↦ runsAre [] | false ↦ faultAt (i + 2) ]
+linesFrom limits i n (line ∷ next ∷ lines) =
     elim (runOf line) [
       | none ↦ faultAt (i + 2)
       | some run ↦
           elim (leb (limits .runs) i || ltb (limits .numbers) (n + length run)) [
             | true ↦ faultAt (i + 2)
-            | false ↦ withRun run (linesFrom limits longer (suc i) (n + length run) (next ∷ lines))
+            | false ↦ withRun run (linesFrom limits (suc i) (n + length run) (next ∷ lines))
           ]
     ]
+
+-- If the input is longer than the limit, byte 65,537 is at fault. It stands after the last line end before it.
+unfoldable pub limited : Bool → Lines → Lines
+limited false lines = lines
+limited true (runsAre runs) = faultAt (length runs + 2)
+limited true (faultAt line) = faultAt line
 
 -- All runs lie one after another in one row; a second row has the end of each.
 unfoldable pub row : List (List ℕ) → List ℕ
@@ -135,7 +141,7 @@ unfoldable pub parseLines : Bool → List (List ℕ) → List ℕ → List ℕ �
 parseLines longer [] numbers ends = resultOf noHeading (runsAre []) numbers ends
 parseLines longer (line ∷ []) numbers ends = resultOf noHeading (runsAre []) numbers ends
 parseLines longer (line ∷ next ∷ lines) numbers ends =
-    resultOf (headingOf line) (linesFrom (record { runs = length ends; numbers = length numbers }) longer 0 0 (next ∷ lines)) numbers ends
+    resultOf (headingOf line) (limited longer (linesFrom (record { runs = length ends; numbers = length numbers }) 0 0 (next ∷ lines))) numbers ends
 
 -- The input as a question: the limits of runs and numbers are the lengths of the rows.
 unfoldable pub parse : List ℕ → List ℕ → List ℕ → Result
