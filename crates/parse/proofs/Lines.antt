@@ -1,20 +1,18 @@
 -- The lines after line 1, one after another from a place on. Assumes nothing.
 use Prim.Native.Nat.{ℕ, suc, _+_, _-_, _≤_, _<_}
-use borrow.Author.Tests.{eq-eqb, ne-eqb, lt-ltb, le-ltb, ltb-false, le-leb, lt-leb, leb-false}
-use lib.Dec.{eqb, ltb, leb}
-use lib.ListN.{length, take, drop, length-take, length-drop, length-append, drop-of-length-le}
-use mathlib.Core.Bool.{Bool, true, false, _||_}
-use mathlib.Core.List.{List, [], _∷_, _++_}
-use mathlib.Core.Logic.{⊎-elim, _≢_}
+use borrow.Author.Tests.{ne-eqb, lt-ltb, le-ltb, le-leb, lt-leb}
+use lib.Dec.{ltb, leb}
+use lib.ListN.{length, take, drop, length-append, drop-of-length-le}
+use mathlib.Core.Bool.{true, false, _||_}
+use mathlib.Core.List.{List, [], _++_}
+use mathlib.Core.Logic.{_≢_}
 use mathlib.Core.Option.{Option, none, some, Option·some-injective, Option·none-ne-some, Option·some-ne-none}
 use mathlib.Core.Path.{_≡_, refl, sym, ap, _∙_}
 use native.Mathlib.Numerals.{add-one}
 use native.Mathlib.Omega.{arith}
 use Rattle.model.proofs.Slices.{part-length}
-use Rattle.model.proofs.Tests.{both, or-false}
-use Rattle.parse.specs.Text.{split, runOf, Lines, runsAre, faultAt, withRun, Limits, linesFrom, row}
-use Rattle.parse.specs.Steps.{until, countOf, scanned, runsIn, linesAt}
-use Rattle.parse.specs.declared.Scan.{Scan}
+use Rattle.parse.specs.Text.{split, runOf, Lines, runsAre, faultAt, withRun, linesFrom, row}
+use Rattle.parse.specs.Steps.{until, countOf, scanned, linesAt}
 use Rattle.parse.specs.declared.Scan.the-variants.{Runs, Fault}
 use Rattle.parse.proofs.Pieces.{pieces, pieces-in, pieces-out, pieces-next}
 

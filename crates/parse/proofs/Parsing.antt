@@ -9,9 +9,8 @@ use mathlib.Core.Logic.{_≢_}
 use mathlib.Core.Path.{_≡_, refl, sym, ap, _∙_, subst⁻¹}
 use native.Mathlib.Omega.{arith}
 use Rattle.model.specs.Refusals.{over}
-use Rattle.parse.specs.Text.{mostBytes, split, Heading, heading, noHeading, headingOf, Lines, runsAre, faultAt, Limits, linesFrom, limited, row, endsFrom, question, refused, Result, resultOf, parseLines, parse}
-use Rattle.parse.specs.Steps.{until, scanned, Within, within, faulted, runsIn, linesAt, Readable, Stored, Returns}
-use Rattle.parse.specs.declared.Scan.{Scan}
+use Rattle.parse.specs.Text.{mostBytes, split, heading, noHeading, headingOf, Lines, runsAre, faultAt, Limits, linesFrom, limited, row, endsFrom, question, refused, resultOf, parseLines, parse}
+use Rattle.parse.specs.Steps.{until, scanned, Within, within, runsIn, linesAt, Readable, Stored, Returns}
 use Rattle.parse.specs.declared.Scan.the-variants.{Runs, Fault}
 use Rattle.parse.proofs.Pieces.{split-last, split-cases, split-found}
 

@@ -1,17 +1,16 @@
 -- The words of a line, one after another: the heading, the count of a run's numbers, and the numbers themselves. Assumes nothing.
-use Prim.Native.Nat.{ℕ, zero, suc, _+_, _-_, _≤_, _<_}
+use Prim.Native.Nat.{ℕ, _+_, _-_, _≤_, _<_}
 use lib.ListN.{length, take, drop, set, length-set}
 use lib.Seq.{sets}
 use mathlib.Core.List.{List, [], _∷_}
 use mathlib.Core.Logic.{_≢_}
 use mathlib.Core.Option.{Option, none, some}
 use mathlib.Core.Path.{_≡_, refl, sym, ap, _∙_}
-use native.Mathlib.Nat.{add-zero}
 use native.Mathlib.Numerals.{add-one}
 use native.Mathlib.Omega.{arith}
-use Rattle.parse.specs.Text.{split, number, before, numbersOf, heading, noHeading, pair, twoWords, headingOf, runOf}
+use Rattle.parse.specs.Text.{split, number, before, numbersOf, heading, runOf}
 use Rattle.parse.specs.Steps.{until, countOf, leading}
-use Rattle.parse.proofs.Pieces.{pieces, pieces-in, pieces-out, pieces-start, pieces-next, split-few}
+use Rattle.parse.proofs.Pieces.{pieces, pieces-out, pieces-start, pieces-next}
 
 -- the words from a place on
 abbrev pub wordsAt : List ℕ → ℕ → List (List ℕ)

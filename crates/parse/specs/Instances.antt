@@ -1,5 +1,5 @@
 -- Inputs of the program hits with what they are parsed to, among them the listing of document 01. Definitions only.
-use Prim.Native.Char.{Char, code}
+use Prim.Native.Char.{code}
 use Prim.Native.Nat.{ℕ}
 use Prim.Native.String.{String, [] as noText, _∷_ as _andText_}
 use mathlib.Core.List.{List, [], _∷_, _++_, map}

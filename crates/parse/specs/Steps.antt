@@ -1,5 +1,5 @@
 -- What the functions below `parse` compute, and what the code's enums mean. Definitions only.
-use Prim.Native.Nat.{ℕ, zero, suc, _+_, _≤_}
+use Prim.Native.Nat.{ℕ, suc, _+_, _≤_}
 use mathlib.Core.Bool.{true, false}
 use mathlib.Core.List.{List, [], _∷_}
 use mathlib.Core.Option.{Option, none, some}
@@ -7,7 +7,7 @@ use mathlib.Core.Path.{_≡_}
 use lib.Dec.{eqb}
 use lib.ListN.{length, drop}
 use lib.Seq.{sets}
-use Rattle.parse.specs.Text.{number, Heading, noHeading, heading, Lines, runsAre, faultAt, Limits, linesFrom, split, row, endsFrom, Outcome, question, refused, Result, mostBytes}
+use Rattle.parse.specs.Text.{number, Heading, noHeading, heading, Lines, runsAre, faultAt, linesFrom, split, row, endsFrom, Outcome, question, refused, Result, mostBytes}
 use Rattle.parse.specs.declared.First.{First}
 use Rattle.parse.specs.declared.First.the-variants.{Pair, NoPair}
 use Rattle.parse.specs.declared.Parsed.{Parsed}

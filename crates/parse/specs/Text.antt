@@ -1,5 +1,5 @@
 -- Document 01, 'The program hits': the input text as a question, or refusal 12 with the number of the first line at fault. Definitions only.
-use Prim.Native.Nat.{ℕ, zero, suc, _+_, _-_, _*_}
+use Prim.Native.Nat.{ℕ, suc, _+_, _-_, _*_}
 use mathlib.Core.Bool.{Bool, true, false, _&&_, _||_}
 use mathlib.Core.List.{List, [], _∷_, _++_}
 use mathlib.Core.Option.{Option, none, some}
@@ -27,6 +27,7 @@ unfoldable pub allDigits : List ℕ → Bool
 allDigits [] = true
 allDigits (b ∷ word) = (leb 48 b && leb b 57) && allDigits word
 
+-- (n is the value of the digits before)
 unfoldable pub decimal : ℕ → List ℕ → ℕ
 decimal n [] = n
 decimal n (b ∷ word) = decimal (n * 10 + (b - 48)) word
@@ -115,7 +116,7 @@ unfoldable pub endsFrom : ℕ → List (List ℕ) → List ℕ
 endsFrom start [] = []
 endsFrom start (run ∷ runs) = (start + length run) ∷ endsFrom (start + length run) runs
 
--- The question, with the numbers of its runs and of all their numbers; or a refusal's number and place.
+-- The question, with how many runs and numbers it has; or a refusal's number and place.
 pub data Outcome : Type 0 where
   question : (threshold allowance runs numbers : ℕ) → Outcome
   refused : (number place : ℕ) → Outcome

@@ -7,7 +7,7 @@ ghost use lib.Seq.{sets};
 ghost use Rattle.parse.specs.Text.{mostBytes, split, number, headingOf, runOf, parseLines, parse};
 ghost use Rattle.parse.specs.Steps.{until, wordIs, headingIs, countIs, countOf, leading, scanned, Within, linesAt, Readable, Stored, outcomeIs, Returns};
 
-// A question with the numbers of its runs and of all their numbers, or the number of the first line that cannot be read.
+// A question with how many runs and numbers it has, or the number of the first line that cannot be read.
 pub enum Parsed {
     Question {
         threshold: u32,

@@ -1,9 +1,8 @@
 -- `first_of` gives the length of the first piece. The invariant: it is what was passed with the length of the first piece from here on. The measure
 -- is what is left. Assumes nothing.
 use Prim.Native.Nat.{_+_, _-_, _≤_}
-use borrow.Author.Needs.{needs}
 use lib.ListN.{length, drop}
-use mathlib.Core.Path.{_≡_, refl, sym, ap, _∙_}
+use mathlib.Core.Path.{_≡_}
 use native.Mathlib.Omega.{arith}
 use Rattle.parse.specs.Steps.{until}
 use Rattle.parse.proofs.Pieces.{until-at, until-on, until-end}

@@ -1,8 +1,7 @@
 -- `parse` gives the outcome and both rows of the definition, for any input. Assumes nothing.
-use Prim.Native.Nat.{_+_, _-_, _≤_, _<_}
 use borrow.Author.Needs.{needs}
 use lib.ListN.{length-take}
-use mathlib.Core.Path.{_≡_, refl, sym, ap, _∙_, subst⁻¹}
+use mathlib.Core.Path.{subst⁻¹}
 use native.Mathlib.Omega.{arith}
 use Rattle.parse.specs.Text.{mostBytes}
 use Rattle.parse.specs.Steps.{Returns, outcomeIs}

@@ -1,8 +1,8 @@
 -- `parse_bytes` parses at most 65,536 bytes. Assumes nothing.
-use Prim.Native.Nat.{_+_, _-_, _≤_, _<_}
+use Prim.Native.Nat.{_+_, _-_}
 use borrow.Author.Needs.{needs}
-use lib.ListN.{length, take, drop}
-use mathlib.Core.Path.{_≡_, refl, sym, ap, _∙_, subst}
+use lib.ListN.{length, take}
+use mathlib.Core.Path.{_≡_, sym, ap, _∙_, subst}
 use native.Mathlib.Omega.{arith}
 use Rattle.parse.specs.Text.{heading, headingOf}
 use Rattle.parse.specs.Steps.{headingIs, scanned, Within, linesAt}

@@ -1,11 +1,11 @@
 -- `read_first` gives the two numbers of line 1. Assumes nothing.
-use Prim.Native.Nat.{ℕ, _+_, _-_, _≤_}
+use Prim.Native.Nat.{ℕ, _+_, _-_}
 use borrow.Author.Needs.{needs}
 use lib.ListN.{length, take, drop}
-use mathlib.Core.Option.{Option, none, some}
+use mathlib.Core.Option.{Option}
 use mathlib.Core.Path.{_≡_, refl, sym, ap, _∙_}
 use native.Mathlib.Omega.{arith}
-use Rattle.parse.specs.Text.{noHeading, heading, pair, number, headingOf}
+use Rattle.parse.specs.Text.{pair, number, headingOf}
 use Rattle.parse.specs.Steps.{wordIs}
 use Rattle.parse.proofs.Headings.{heading-one, space-inside, next-inside, heading-more, heading-two}
 use Rattle.parse.proofs.read_first.Statement.{statement}

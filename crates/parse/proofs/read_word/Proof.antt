@@ -2,8 +2,8 @@
 -- The measure is what is left of the word. Assumes nothing.
 use Prim.Native.Nat.{_+_, _-_, _*_, _≤_}
 use borrow.Author.Needs.{needs}
-use lib.ListN.{length, getD, drop}
-use mathlib.Core.Path.{_≡_, refl, sym, ap, _∙_}
+use lib.ListN.{length, drop}
+use mathlib.Core.Path.{_≡_, sym, ap, _∙_}
 use native.Mathlib.Omega.{arith}
 use Rattle.parse.specs.Text.{number}
 use Rattle.parse.proofs.Values.{numberFrom, number-empty, number-start, below-digits, above-digits, digit-on, too-large, number-end}

@@ -1,9 +1,9 @@
 -- `scan_lines` gives the first line at fault, or the numbers of runs and numbers. The invariant is `Scanning`; the measure is what is left of the bytes.
 -- Assumes nothing.
-use Prim.Native.Nat.{_+_, _-_, _≤_, _<_}
+use Prim.Native.Nat.{_+_, _-_, _≤_}
 use borrow.Author.Needs.{needs}
-use lib.ListN.{length, take, drop}
-use mathlib.Core.Path.{_≡_, refl, sym, ap, _∙_}
+use lib.ListN.{length}
+use mathlib.Core.Path.{sym, ap, _∙_}
 use native.Mathlib.Omega.{arith}
 use Rattle.parse.specs.Text.{mostBytes}
 use Rattle.parse.specs.Steps.{countIs, within, faulted}

@@ -1,8 +1,7 @@
 -- `write_lines` stores the runs. The invariant is `Writing`; the measure is what is left of the bytes. Assumes nothing.
-use Prim.Native.Nat.{_+_, _-_, _≤_, _<_}
+use Prim.Native.Nat.{_+_, _-_, _<_}
 use borrow.Author.Needs.{needs}
-use lib.ListN.{length, take, drop}
-use mathlib.Core.Path.{_≡_, refl, sym, ap, _∙_}
+use lib.ListN.{length}
 use native.Mathlib.Omega.{arith}
 use Rattle.parse.specs.Text.{mostBytes}
 use Rattle.parse.proofs.Pieces.{piece-ends}

@@ -1,8 +1,8 @@
 -- `write_run` stores the numbers of a run. The invariant is `Storing`; the measure is what is left of the line. Assumes nothing.
 use Prim.Native.Nat.{_+_, _-_, _≤_}
 use borrow.Author.Needs.{needs}
-use lib.ListN.{length, take, drop}
-use mathlib.Core.Path.{_≡_, refl, sym, ap, _∙_}
+use lib.ListN.{length}
+use mathlib.Core.Path.{sym, ap, _∙_}
 use native.Mathlib.Omega.{arith}
 use Rattle.parse.specs.Text.{split}
 use Rattle.parse.specs.Steps.{wordIs, leading}
