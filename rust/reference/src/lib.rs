@@ -9,7 +9,8 @@
 //! * [`check()`] decides whether a certificate is true, and names the first
 //!   wrong field.
 //! * [`between()`] finds the numbers of one list between two numbers.
-//! * [`hits()`] is the text form of the program of that name.
+//! * [`parse()`] reads the input text of the program `hits`, and [`hits()`] gives
+//!   what it prints.
 //! * [`trace()`], [`is_true`], [`fewest_parts()`] and [`probe_bound`] serve tests:
 //!   they give the whole walk and the definitions it is compared with.
 //! * [`testing`] is what the tests of this crate and the comparison share.
@@ -28,6 +29,7 @@ pub mod hits;
 mod mask;
 pub mod query;
 pub mod testing;
+pub mod text;
 pub mod trace;
 mod walk;
 
@@ -39,4 +41,5 @@ pub use fewest_parts::fewest_parts;
 pub use first_checks::{first_checks, split_runs, Refusal, MAX_NUMBERS, MAX_RUNS};
 pub use hits::hits;
 pub use query::{query, Outcome};
+pub use text::{parse, Question};
 pub use trace::{trace, Trace};

@@ -1,0 +1,3 @@
+pub mod Instances
+pub mod Steps
+pub mod Text

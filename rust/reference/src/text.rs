@@ -1,0 +1,78 @@
+//! The input text of the program `hits`.
+
+use crate::first_checks::MAX_RUNS;
+
+const MAX_INPUT_BYTES: usize = 65_536;
+const MAX_INPUT_NUMBERS: usize = 1_024;
+
+/// A query read from text.
+#[derive(Debug, PartialEq, Eq)]
+pub struct Question {
+    /// How many runs must hold a number.
+    pub threshold: u32,
+    /// The most probes that may be made.
+    pub allowance: u32,
+    /// All runs, one after another.
+    pub numbers: Vec<u32>,
+    /// The place after each run's last number.
+    pub ends: Vec<u32>,
+}
+
+/// Returns the question, or the number of the first line that cannot be read.
+pub fn parse(input: &[u8]) -> Result<Question, usize> {
+    // A byte beyond the limit is a fault in its own line, and so matters only
+    // if all lines that end within the limit can be read.
+    let text = &input[..input.len().min(MAX_INPUT_BYTES)];
+    let mut lines = text.split_inclusive(|&byte| byte == b'\n');
+
+    let (threshold, allowance) = lines.next().and_then(read_first_line).ok_or(1_usize)?;
+    let mut question = Question {
+        threshold,
+        allowance,
+        numbers: Vec::new(),
+        ends: Vec::new(),
+    };
+    for line in lines {
+        let line_number = question.ends.len() + 2;
+        if question.ends.len() == MAX_RUNS {
+            return Err(line_number);
+        }
+        let run = read_run(line).ok_or(line_number)?;
+        question.numbers.extend(run);
+        if question.numbers.len() > MAX_INPUT_NUMBERS {
+            return Err(line_number);
+        }
+        question.ends.push(question.numbers.len() as u32);
+    }
+    if input.len() > MAX_INPUT_BYTES {
+        return Err(question.ends.len() + 2);
+    }
+    Ok(question)
+}
+
+/// The threshold and the allowance.
+fn read_first_line(line: &[u8]) -> Option<(u32, u32)> {
+    match read_run(line)?[..] {
+        [threshold, allowance] => Some((threshold, allowance)),
+        _ => None,
+    }
+}
+
+/// The numbers of one line, which must end with byte 10.
+fn read_run(line: &[u8]) -> Option<Vec<u32>> {
+    match line.strip_suffix(b"\n")? {
+        [] => Some(Vec::new()),
+        words => words.split(|&byte| byte == b' ').map(read_number).collect(),
+    }
+}
+
+/// A decimal number of at least one digit, leading zeros allowed.
+fn read_number(word: &[u8]) -> Option<u32> {
+    if word.is_empty() {
+        return None;
+    }
+    word.iter().try_fold(0_u32, |number, &byte| {
+        let digit = char::from(byte).to_digit(10)?;
+        number.checked_mul(10)?.checked_add(digit)
+    })
+}
