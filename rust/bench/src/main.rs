@@ -8,6 +8,7 @@
 #![forbid(unsafe_code)]
 
 mod baselines;
+mod checking;
 mod inputs;
 
 use inputs::{Input, NUMBERS};
@@ -113,6 +114,7 @@ fn main() -> ExitCode {
             }
         }
     }
+    checking::report(&options.only, options.repetitions);
     println!(
         "All buffers were allocated and written once before timing and not cleared between \
          repetitions."

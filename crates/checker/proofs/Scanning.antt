@@ -1,0 +1,146 @@
+-- The scan of the runs that a part names: over the runs, and over the numbers of one. Assumes nothing.
+use Prim.Native.Nat.{ℕ, _+_, _^_, _≤_, _<_}
+use borrow.Author.Tests.{eq-eqb, ne-eqb}
+use lib.Dec.{eqb}
+use lib.ListN.{length, getD, set}
+use mathlib.Core.Bool.{Bool, true, false, not}
+use mathlib.Core.List.{List}
+use mathlib.Core.Logic.{⊎-elim, _≢_}
+use mathlib.Core.Path.{_≡_, refl, sym, ap, _∙_, subst}
+use native.Mathlib.Omega.{arith}
+use Rattle.bits.proofs.Lowest.{cleared-other}
+use Rattle.bits.specs.Bits.{Lowest}
+use Rattle.model.proofs.Masks.{below-only}
+use Rattle.model.proofs.Tests.{eq-or-ne}
+use Rattle.model.specs.Refusals.{contradicts, anyContradicts}
+use Rattle.model.specs.Runs.{pastBin, slice, runs, bit}
+use Rattle.model.specs.Walk.{headOf}
+use Rattle.checker.specs.Cursors.{runAt, headIn, placeOf, binOf, doubtedOf, Cursors, clash, claim}
+use Rattle.checker.proofs.Moving.{Here, here-start, here-more, here-on, here-head, cursors-on, head-fits}
+use Rattle.checker.proofs.Naming.{bit-none, named-says, unnamed-agrees, clash-above, none-contradicts, one-contradicts}
+use Rattle.checker.proofs.Reaching.{doubted-named, doubted-not}
+
+-- ---- over the runs
+
+-- the runs of `rest` are named, and no other contradicts the part
+pub record Sofar (numbers ends : List ℕ) (held : Bool) (f l m : ℕ) (cursors : List ℕ) (rest : ℕ) : Type 0 where
+  pub ready : Cursors numbers ends cursors f
+  pub low : f < pastBin
+  pub high : l < pastBin
+  pub small : m < 2 ^ length ends
+  pub named : (i : ℕ) → bit rest i ≡ 1 → bit m i ≡ 1
+  pub agreed : (i : ℕ) → i < length ends → bit rest i ≡ 0 → contradicts (claim held f l m) (runAt numbers ends i) ≡ false
+
+pub sofar-start : (numbers ends : List ℕ) (held : Bool) (f l m : ℕ) (cursors : List ℕ) (rest : ℕ) → f < pastBin → l < pastBin
+    → Cursors numbers ends cursors f → m < 2 ^ length ends → rest ≡ doubtedOf held l m cursors → Sofar numbers ends held f l m cursors rest
+sofar-start numbers ends held f l m cursors rest a b c s e =
+    record {
+      ready = c;
+      low = a;
+      high = b;
+      small = s;
+      named = λ i q. doubted-named held l m cursors i (ap (λ x. bit x i) (sym e) ∙ q);
+      agreed = λ i h q.
+          ⊎-elim
+          (λ (n : bit m i ≡ 1).
+          let z = c .lengths in
+          let d = doubted-not held l m cursors i (omega arith) (ap (λ x. bit x i) (sym e) ∙ q) n in
+          let g = c .ahead i h in
+          sym (named-says numbers ends held f l m i (headIn numbers ends i f) (c .risen i h) a b n refl)
+          ∙ clash-above held f l (headIn numbers ends i f) (d .0) (omega (arith, d .1)))
+          (λ (n : bit m i ≢ 1). unnamed-agrees numbers ends held f l m i n)
+          (eq-or-ne (bit m i) 1);
+    }
+
+pub sofar-end : (numbers ends : List ℕ) (held : Bool) (f l m : ℕ) (cursors : List ℕ) (rest : ℕ) → Sofar numbers ends held f l m cursors rest → rest ≡ 0
+    → not (eqb rest 0) ≡ anyContradicts (claim held f l m) (runs numbers ends)
+sofar-end numbers ends held f l m cursors rest s e =
+    ap not (eq-eqb rest 0 e) ∙ none-contradicts numbers ends (claim held f l m) (λ i h. s .agreed i h (ap (λ x. bit x i) e ∙ bit-none i))
+
+-- ---- over the numbers of a run of the rest
+
+pub record Scan (numbers ends : List ℕ) (held : Bool) (f l m : ℕ) (cursors : List ℕ) (rest run i end j : ℕ) : Type 0 where
+  pub sofar : Sofar numbers ends held f l m cursors rest
+  pub here : Here numbers ends i end f j
+  pub which : i ≡ run
+  pub of-rest : bit rest i ≡ 1
+
+below-count : (numbers ends : List ℕ) (held : Bool) (f l m : ℕ) (cursors : List ℕ) (rest i : ℕ) → Sofar numbers ends held f l m cursors rest
+    → bit rest i ≡ 1 → i < length ends
+below-count numbers ends held f l m cursors rest i s n = below-only m (length ends) i (s .small) (s .named i n)
+
+module _ (numbers ends : List ℕ) (held : Bool) (f l m : ℕ) (cursors : List ℕ) (rest run i : ℕ) (s : Sofar numbers ends held f l m cursors rest)
+    (o : Lowest rest run) (e : i ≡ run) where
+  chosen : bit rest i ≡ 1
+  chosen = ap (bit rest) e ∙ o .here
+
+  pub run-below : i < length ends
+  run-below = below-count numbers ends held f l m cursors rest i s chosen
+
+  pub scan-start : (end j : ℕ) → end ≡ getD ends i 0 → j ≡ placeOf (getD cursors i 0) → Scan numbers ends held f l m cursors rest run i end j
+  scan-start end j ee ej =
+      record {
+        sofar = s;
+        here = here-start numbers ends cursors i end f j run-below (s .ready) ee ej;
+        which = e;
+        of-rest = chosen;
+      }
+
+module _ (numbers ends : List ℕ) (held : Bool) (f l m : ℕ) (cursors : List ℕ) (rest run i end j x : ℕ)
+    (s : Scan numbers ends held f l m cursors rest run i end j) (ex : x ≡ headOf (slice numbers j end)) where
+  inside : i < length ends
+  inside = below-count numbers ends held f l m cursors rest i (s .sofar) (s .of-rest)
+
+  pub scan-more : x < f → j < end
+  scan-more h = here-more numbers ends i end f j x (s .here) ex h (s .sofar .low)
+
+  pub scan-on : x < f → Scan numbers ends held f l m cursors rest run i end (j + 1)
+  scan-on h =
+      record {
+        sofar = s .sofar;
+        here = here-on numbers ends i end f j x (s .here) ex h (s .sofar .low);
+        which = s .which;
+        of-rest = s .of-rest;
+      }
+
+  module _ (h : f ≤ x) where
+    first-is : headIn numbers ends i f ≡ x
+    first-is = here-head numbers ends i end f j x (s .here) ex h
+
+    said : clash held f l x ≡ contradicts (claim held f l m) (runAt numbers ends i)
+    said =
+        named-says numbers ends held f l m i x (s .sofar .ready .risen i inside) (s .sofar .low) (s .sofar .high) (s .sofar .named i (s .of-rest)) first-is
+
+    pub scan-fits : (x ≤ 4294967296) × (j < 2097152)
+    scan-fits =
+        let b = head-fits numbers ends cursors i f f inside (s .sofar .ready) in
+        let e = first-is in
+        let o = s .here .order in
+        let n = s .here .inside in
+        let k = s .sofar .ready .short in
+        (omega arith, omega arith)
+
+    pub scan-found : (y : Bool) → y ≡ clash held f l x → y ≡ true → rest ≢ 0 → not (eqb rest 0) ≡ anyContradicts (claim held f l m) (runs numbers ends)
+    scan-found y ey t n = ap not (ne-eqb rest 0 n) ∙ one-contradicts numbers ends (claim held f l m) i inside (sym said ∙ (sym ey ∙ t))
+
+    pub scan-agrees : (y : Bool) → y ≡ clash held f l x → y ≡ false → (w : ℕ) → (placeOf w ≡ j) × (binOf w ≡ x) → (rest′ : ℕ) → rest′ + 2 ^ run ≡ rest
+        → Sofar numbers ends held f l m (set cursors i w) rest′
+    scan-agrees y ey t w ew rest′ er =
+        let g : rest′ + 2 ^ i ≡ rest = ap (λ z. rest′ + 2 ^ z) (s .which) ∙ er in
+        record {
+          ready = cursors-on numbers ends cursors i end f j x w inside (s .sofar .ready) (s .here) first-is ew (set cursors i w) refl;
+          low = s .sofar .low;
+          high = s .sofar .high;
+          small = s .sofar .small;
+          named = λ n q.
+              ⊎-elim
+              (λ (z : n ≡ i). subst (λ u. bit m u ≡ 1) (sym z) (s .sofar .named i (s .of-rest)))
+              (λ (z : n ≢ i). s .sofar .named n (sym (cleared-other rest rest′ i n (s .of-rest) g z) ∙ q))
+              (eq-or-ne n i);
+          agreed = λ n k q.
+              ⊎-elim
+              (λ (z : n ≡ i).
+              subst (λ u. contradicts (claim held f l m) (runAt numbers ends u) ≡ false) (sym z) (sym said ∙ (sym ey ∙ t)))
+              (λ (z : n ≢ i). s .sofar .agreed n k (sym (cleared-other rest rest′ i n (s .of-rest) g z) ∙ q))
+              (eq-or-ne n i);
+        }
