@@ -1,8 +1,8 @@
 -- A cursor as one number, and the runs that may have a number up to a bin. Assumes nothing.
 use Prim.Native.Nat.{ℕ, zero, suc, _+_, _-_, _*_, _/_, _%_, _^_, _≤_, _<_, min}
-use borrow.Author.Tests.{leb-true, leb-false, lt-leb}
+use borrow.Author.Tests.{leb-false, le-leb, lt-leb, le-ltb, lt-ltb}
 use lib.Bits.{bitAnd, and-step, and-shr}
-use lib.Dec.{leb}
+use lib.Dec.{leb, ltb}
 use lib.ListN.{length, getD, drop, length-drop, drop-of-length-le}
 use lib.Pow.{pow-mono}
 use lib.Seq.{drop-cons}
@@ -15,9 +15,9 @@ use native.Mathlib.Nat.{pow-suc, zero-min, mod-lt}
 use native.Mathlib.Omega.{arith}
 use Rattle.bits.proofs.Lowest.{bit-zero, bit-half}
 use Rattle.model.proofs.Masks.{bit-of, bit-small}
-use Rattle.model.proofs.Tests.{both, eq-or-ne}
+use Rattle.model.proofs.Tests.{both, lt-or-le}
 use Rattle.model.specs.Runs.{bit, one}
-use Rattle.checker.specs.Cursors.{placeOf, binOf, reachedOf, doubtedOf}
+use Rattle.checker.specs.Cursors.{placeOf, binOf, reachedOf, toScan}
 
 -- ---- a cursor
 
@@ -38,9 +38,17 @@ unfolding one
 as-one true = refl
 as-one false = refl
 
-pub bin-is : (c l : ℕ) → boolByte (leb (c / 2097152) l) ≡ one (leb (binOf c) l)
+pub below-is : (x y : ℕ) → boolByte (ltb x y) ≡ one (ltb x y)
+below-is x y = as-one (ltb x y)
+
+-- a cursor's bin is not above l where the cursor is below the first one whose bin is
+pub bin-below : (c l m : ℕ) → m ≡ (l + 1) * 2097152 → one (ltb c m) ≡ one (leb (binOf c) l)
 unfolding binOf
-bin-is c l = as-one (leb (c / 2097152) l)
+bin-below c l m e =
+    ⊎-elim
+    (λ (h : c < m). ap one (lt-ltb c m h ∙ sym (le-leb (c / 2097152) l (omega arith))))
+    (λ (h : m ≤ c). ap one (le-ltb c m h ∙ sym (lt-leb (c / 2097152) l (omega arith))))
+    (lt-or-le c m)
 
 -- ---- the runs reached
 
@@ -99,15 +107,15 @@ reached-bit l (c ∷ s) (suc i) h =
 
 -- ---- the runs to look at
 
-pub doubted-held : (held : Bool) (l m : ℕ) (s : List ℕ) → held ≡ true → m ≡ doubtedOf held l m s
-unfolding doubtedOf
-doubted-held true l m s e = refl
-doubted-held false l m s e = Rattle.model.proofs.Tests.true-false e refl
+pub to-scan-held : (held : Bool) (l m : ℕ) (s : List ℕ) → held ≡ true → m ≡ toScan held l m s
+unfolding toScan
+to-scan-held true l m s e = refl
+to-scan-held false l m s e = Rattle.model.proofs.Tests.true-false e refl
 
-pub doubted-gap : (held : Bool) (l m r : ℕ) (s : List ℕ) → held ≡ false → r ≡ reachedOf l s → bitAnd m r ≡ doubtedOf held l m s
-unfolding doubtedOf
-doubted-gap true l m r s e f = Rattle.model.proofs.Tests.true-false refl e
-doubted-gap false l m r s e f = ap (bitAnd m) f
+pub to-scan-gap : (held : Bool) (l m r : ℕ) (s : List ℕ) → held ≡ false → r ≡ reachedOf l s → bitAnd m r ≡ toScan held l m s
+unfolding toScan
+to-scan-gap true l m r s e f = Rattle.model.proofs.Tests.true-false refl e
+to-scan-gap false l m r s e f = ap (bitAnd m) f
 
 min-two : (a b : ℕ) → a < 2 → b < 2 → ((min a b ≡ 1) × (a ≡ 1) × (b ≡ 1)) ⊎ ((min a b ≡ 0) × ((a ≡ 0) ⊎ (b ≡ 0)))
 min-two zero b h k = inr (zero-min b, inl refl)
@@ -126,10 +134,10 @@ and-bit a b i =
     let n : min (x % 2) (y % 2) < 2 = ⊎-elim (λ w. omega (arith, w .0)) (λ w. omega (arith, w .0)) u in
     ap (λ z. z % 2) (and-shr a b i) ∙ omega arith
 
-pub doubted-named : (held : Bool) (l m : ℕ) (s : List ℕ) (i : ℕ) → bit (doubtedOf held l m s) i ≡ 1 → bit m i ≡ 1
-unfolding doubtedOf
-doubted-named true l m s i e = e
-doubted-named false l m s i e =
+pub to-scan-named : (held : Bool) (l m : ℕ) (s : List ℕ) (i : ℕ) → bit (toScan held l m s) i ≡ 1 → bit m i ≡ 1
+unfolding toScan
+to-scan-named true l m s i e = e
+to-scan-named false l m s i e =
     let r = bit (reachedOf l s) i in
     let a = and-bit m (reachedOf l s) i in
     ⊎-elim
@@ -146,11 +154,11 @@ unreached x y e =
     (both (leb x y))
 
 -- a named run that need not be looked at
-pub doubted-not : (held : Bool) (l m : ℕ) (s : List ℕ) (i : ℕ) → i < length s → bit (doubtedOf held l m s) i ≡ 0 → bit m i ≡ 1
+pub to-scan-not : (held : Bool) (l m : ℕ) (s : List ℕ) (i : ℕ) → i < length s → bit (toScan held l m s) i ≡ 0 → bit m i ≡ 1
     → (held ≡ false) × (l < binOf (getD s i 0))
-unfolding doubtedOf
-doubted-not true l m s i h e n = absurd (omega arith)
-doubted-not false l m s i h e n =
+unfolding toScan
+to-scan-not true l m s i h e n = absurd (omega arith)
+to-scan-not false l m s i h e n =
     let r = bit (reachedOf l s) i in
     let a = and-bit m (reachedOf l s) i in
     let b = reached-bit l s i h in

@@ -15,10 +15,10 @@ use Rattle.model.proofs.Tests.{eq-or-ne}
 use Rattle.model.specs.Refusals.{contradicts, anyContradicts}
 use Rattle.model.specs.Runs.{pastBin, slice, runs, bit}
 use Rattle.model.specs.Walk.{headOf}
-use Rattle.checker.specs.Cursors.{runAt, headIn, placeOf, binOf, doubtedOf, Cursors, clash, claim}
+use Rattle.checker.specs.Cursors.{runAt, headIn, placeOf, binOf, toScan, Cursors, clash, claim}
 use Rattle.checker.proofs.Moving.{Here, here-start, here-more, here-on, here-head, cursors-on, head-fits}
 use Rattle.checker.proofs.Naming.{bit-none, named-says, unnamed-agrees, clash-above, none-contradicts, one-contradicts}
-use Rattle.checker.proofs.Reaching.{doubted-named, doubted-not}
+use Rattle.checker.proofs.Reaching.{to-scan-named, to-scan-not}
 
 -- ---- over the runs
 
@@ -32,19 +32,19 @@ pub record Sofar (numbers ends : List ℕ) (held : Bool) (f l m : ℕ) (cursors 
   pub agreed : (i : ℕ) → i < length ends → bit rest i ≡ 0 → contradicts (claim held f l m) (runAt numbers ends i) ≡ false
 
 pub sofar-start : (numbers ends : List ℕ) (held : Bool) (f l m : ℕ) (cursors : List ℕ) (rest : ℕ) → f < pastBin → l < pastBin
-    → Cursors numbers ends cursors f → m < 2 ^ length ends → rest ≡ doubtedOf held l m cursors → Sofar numbers ends held f l m cursors rest
+    → Cursors numbers ends cursors f → m < 2 ^ length ends → rest ≡ toScan held l m cursors → Sofar numbers ends held f l m cursors rest
 sofar-start numbers ends held f l m cursors rest a b c s e =
     record {
       ready = c;
       low = a;
       high = b;
       small = s;
-      named = λ i q. doubted-named held l m cursors i (ap (λ x. bit x i) (sym e) ∙ q);
+      named = λ i q. to-scan-named held l m cursors i (ap (λ x. bit x i) (sym e) ∙ q);
       agreed = λ i h q.
           ⊎-elim
           (λ (n : bit m i ≡ 1).
           let z = c .lengths in
-          let d = doubted-not held l m cursors i (omega arith) (ap (λ x. bit x i) (sym e) ∙ q) n in
+          let d = to-scan-not held l m cursors i (omega arith) (ap (λ x. bit x i) (sym e) ∙ q) n in
           let g = c .ahead i h in
           sym (named-says numbers ends held f l m i (headIn numbers ends i f) (c .risen i h) a b n refl)
           ∙ clash-above held f l (headIn numbers ends i f) (d .0) (omega (arith, d .1)))

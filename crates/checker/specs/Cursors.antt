@@ -52,9 +52,9 @@ reachedOf l [] = 0
 reachedOf l (c ∷ cursors) = reachedOf l cursors * 2 + one (leb (binOf c) l)
 
 -- the runs of a mask m that may contradict an answer, or a gap up to l
-unfoldable pub doubtedOf : Bool → ℕ → ℕ → List ℕ → ℕ
-doubtedOf true l m cursors = m
-doubtedOf false l m cursors = bitAnd m (reachedOf l cursors)
+unfoldable pub toScan : Bool → ℕ → ℕ → List ℕ → ℕ
+toScan true l m cursors = m
+toScan false l m cursors = bitAnd m (reachedOf l cursors)
 
 -- A run whose first number from f on is h contradicts the answer f, or the gap from f to l.
 unfoldable pub clash : Bool → ℕ → ℕ → ℕ → Bool

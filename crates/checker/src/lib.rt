@@ -10,7 +10,7 @@ ghost use Rattle.model.specs.Refusals.{anyContradicts, checkFrom, check};
 ghost use Rattle.model.specs.Runs.{one, slice, runs};
 ghost use Rattle.model.specs.Walk.{headOf};
 ghost use Rattle.fields.specs.Fields.{partOf};
-ghost use Rattle.checker.specs.Cursors.{placeOf, binOf, reachedOf, doubtedOf, Cursors, clash, claim, Tested, PartChecked, answersIn, Begins};
+ghost use Rattle.checker.specs.Cursors.{placeOf, binOf, reachedOf, toScan, Cursors, clash, claim, Tested, PartChecked, answersIn, Begins};
 ghost use Rattle.checker.specs.Verdicts.{verdictIs, Accepted};
 use fields::Field;
 use fields::Part;
@@ -34,7 +34,7 @@ fn long(x: u32) -> u64
     x as u64
 }
 
-// A cursor of a run: a bin × 2097152 + a place. The run's numbers before the place are below every uncovered bin, and so are those below the bin.
+// A cursor of a run: a bin × 2097152 + a place. The run has no number that is still uncovered before the place, and none below the bin.
 fn cursor_at(bin: u64, place: usize) -> u64
     requires { ⌜ (bin ≤ 4294967296) × (place < 2097152) ⌝ }
     ensures { λ r. ⌜ (placeOf r ≡ place) × (binOf r ≡ bin) ⌝ }
@@ -48,31 +48,32 @@ fn place_of(cursor: u64) -> usize
     (cursor % 2097152) as usize
 }
 
-// 1 where a cursor's bin is not above `last`, and otherwise 0.
-fn reaches(cursor: u64, last: u32) -> u64
-    ensures { λ r. ⌜ r ≡ one (leb (binOf cursor) last) ⌝ }
+fn one_if_below(x: u64, limit: u64) -> u64
+    ensures { λ r. ⌜ r ≡ one (ltb x limit) ⌝ }
 {
-    (cursor / 2097152 <= last as u64) as u64
+    (x < limit) as u64
 }
 
-// The runs whose cursor's bin is not above `last`. No other run has an uncovered number up to `last`.
+// The runs whose cursor's bin is not above `last`. No other run has an uncovered number up to `last`. No branch depends on a cursor, since which
+// runs have moved cannot be foretold.
 fn reached(cursors: &[u64], last: u32) -> u64
     requires { ⌜ length (now cursors) ≤ 64 ⌝ }
     ensures { λ r. ⌜ r ≡ reachedOf last (now (cursors .entry)) ⌝ }
 {
+    let limit = (last as u64 + 1) * 2097152;
     let mut mask: u64 = 0;
     let mut i = cursors.len();
     while 0 < i {
         i -= 1;
-        mask = mask * 2 + reaches(cursors[i], last);
+        mask = mask * 2 + one_if_below(cursors[i], limit);
     }
     mask
 }
 
-// The runs to look at: those that an answer names, and those that a gap names and that may have a number up to its last bin.
-fn doubted(cursors: &[u64], last: u32, mask: u64, held: bool) -> u64
+// The runs to scan: all that an answer names, and those that a gap names and that may have a number up to its last bin.
+fn to_scan(cursors: &[u64], last: u32, mask: u64, held: bool) -> u64
     requires { ⌜ length (now cursors) ≤ 64 ⌝ }
-    ensures { λ r. ⌜ r ≡ doubtedOf held last mask (now (cursors .entry)) ⌝ }
+    ensures { λ r. ⌜ r ≡ toScan held last mask (now (cursors .entry)) ⌝ }
 {
     if held {
         return mask;
@@ -101,8 +102,8 @@ fn clashes(x: u64, first: u32, last: u32, held: bool) -> bool
     x <= last as u64
 }
 
-// Whether a run that the mask names contradicts an answer or a gap. A run is scanned from its cursor on, up to its first number from `first` on;
-// there the cursor stays, and it never goes back.
+// Whether a run that the mask names contradicts an answer or a gap. A run is scanned from its cursor on to its first number from `first` on. The cursor
+// stays there, and never goes back.
 fn contradicted(
     numbers: &[u32],
     ends: &[u32],
@@ -115,8 +116,8 @@ fn contradicted(
     requires { ⌜ Cursors (now numbers) (now ends) (now cursors) first × (mask < 2 ^ length (now ends)) ⌝ }
     ensures { λ r. ⌜ (r ≡ anyContradicts (claim held first last mask) (runs (now (numbers .entry)) (now (ends .entry)))) × Cursors (now (numbers .entry)) (now (ends .entry)) (now (cursors .exit)) first ⌝ }
 {
-    // the named runs that are not known to agree
-    let mut rest = doubted(cursors, last, mask, held);
+    // the named runs not known to agree
+    let mut rest = to_scan(cursors, last, mask, held);
     'runs: while rest != 0 {
         let run = bits::lowest_run(rest);
         let i = wide(run);

@@ -27,8 +27,8 @@ Inv-runs numbers ends cursors₀ first last mask held rest₀ cursors rest =
 abbrev μ-runs : tie.MeasureT-runs
 μ-runs numbers ends cursors₀ first last mask held rest₀ cursors rest = rest
 
-doubted-requires : tie.Need-doubted-requires Inv-loop μ-loop Inv-runs μ-runs
-doubted-requires c κs =
+to-scan-requires : tie.Need-to-scan-requires Inv-loop μ-loop Inv-runs μ-runs
+to-scan-requires c κs =
     let p = c .before .before .before .before .pre .0 in
     omega (arith, p .few, p .lengths)
 
@@ -36,8 +36,8 @@ runs-holds : tie.Need-runs-holds Inv-loop μ-loop Inv-runs μ-runs
 runs-holds c =
     let s = c .before .before .before .before .before in
     let a = s .args in (
-      sofar-start (a .numbers .now) (a .ends .now) (a .held) (a .first) (a .last) (a .mask) (a .cursors .now) (c .doubted .result)
-          (bin-fits (a .first) (s .fits .first .fits)) (bin-fits (a .last) (s .fits .last .fits)) (s .pre .0) (s .pre .1) (c .doubted .ensures),
+      sofar-start (a .numbers .now) (a .ends .now) (a .held) (a .first) (a .last) (a .mask) (a .cursors .now) (c .to-scan .result)
+          (bin-fits (a .first) (s .fits .first .fits)) (bin-fits (a .last) (s .fits .last .fits)) (s .pre .0) (s .pre .1) (c .to-scan .ensures),
       s .pre .0 .lengths,
     )
 
@@ -200,7 +200,7 @@ contradicted-spec =
     μ-loop
     Inv-runs
     μ-runs
-    doubted-requires
+    to-scan-requires
     runs-holds
     lowest-run-requires
     wide-requires
