@@ -1,20 +1,19 @@
 -- A cursor as one number, and the runs that may have a number up to a bin. Assumes nothing.
-use Prim.Native.Nat.{ℕ, zero, suc, _+_, _-_, _*_, _/_, _%_, _^_, _≤_, _<_, min}
+use Prim.Native.Nat.{ℕ, zero, suc, _+_, _-_, _*_, _/_, _%_, _^_, _≤_, _<_}
 use borrow.Author.Tests.{leb-false, le-leb, lt-leb, le-ltb, lt-ltb}
-use lib.Bits.{bitAnd, and-step, and-shr}
 use lib.Dec.{leb, ltb}
 use lib.ListN.{length, getD, drop, length-drop, drop-of-length-le}
 use lib.Pow.{pow-mono}
 use lib.Seq.{drop-cons}
 use mathlib.Core.Bool.{Bool, true, false}
 use mathlib.Core.List.{List, [], _∷_}
-use mathlib.Core.Logic.{_⊎_, inl, inr, ⊎-elim, _≢_}
+use mathlib.Core.Logic.{⊎-elim}
 use mathlib.Core.Path.{_≡_, refl, sym, ap, _∙_, subst}
 use mir.Val.{boolByte}
-use native.Mathlib.Nat.{pow-suc, zero-min, mod-lt}
+use native.Mathlib.Nat.{pow-suc}
 use native.Mathlib.Omega.{arith}
 use Rattle.bits.proofs.Lowest.{bit-zero, bit-half}
-use Rattle.model.proofs.Masks.{bit-of, bit-small}
+use Rattle.model.proofs.Masks.{below-only}
 use Rattle.model.proofs.Tests.{both, lt-or-le}
 use Rattle.model.specs.Runs.{bit, one}
 use Rattle.checker.specs.Cursors.{placeOf, binOf, reachedOf, toScan}
@@ -112,38 +111,15 @@ unfolding toScan
 to-scan-held true l m s e = refl
 to-scan-held false l m s e = Rattle.model.proofs.Tests.true-false e refl
 
-pub to-scan-gap : (held : Bool) (l m r : ℕ) (s : List ℕ) → held ≡ false → r ≡ reachedOf l s → bitAnd m r ≡ toScan held l m s
+pub to-scan-gap : (held : Bool) (l m r : ℕ) (s : List ℕ) → held ≡ false → r ≡ reachedOf l s → r ≡ toScan held l m s
 unfolding toScan
 to-scan-gap true l m r s e f = Rattle.model.proofs.Tests.true-false refl e
-to-scan-gap false l m r s e f = ap (bitAnd m) f
+to-scan-gap false l m r s e f = f
 
-min-two : (a b : ℕ) → a < 2 → b < 2 → ((min a b ≡ 1) × (a ≡ 1) × (b ≡ 1)) ⊎ ((min a b ≡ 0) × ((a ≡ 0) ⊎ (b ≡ 0)))
-min-two zero b h k = inr (zero-min b, inl refl)
-min-two (suc zero) zero h k = inr (refl, inr refl)
-min-two (suc zero) (suc zero) h k = inl (refl, refl, refl)
-min-two (suc zero) (suc (suc b)) h k = absurd (omega arith)
-min-two (suc (suc a)) b h k = absurd (omega arith)
-
-and-bit : (a b i : ℕ) → bit (bitAnd a b) i ≡ min (bit a i) (bit b i)
-unfolding bit
-and-bit a b i =
-    let x = a / 2 ^ i in
-    let y = b / 2 ^ i in
-    let s = and-step x y in
-    let u = min-two (x % 2) (y % 2) (mod-lt x (omega arith)) (mod-lt y (omega arith)) in
-    let n : min (x % 2) (y % 2) < 2 = ⊎-elim (λ w. omega (arith, w .0)) (λ w. omega (arith, w .0)) u in
-    ap (λ z. z % 2) (and-shr a b i) ∙ omega arith
-
-pub to-scan-named : (held : Bool) (l m : ℕ) (s : List ℕ) (i : ℕ) → bit (toScan held l m s) i ≡ 1 → bit m i ≡ 1
+pub to-scan-below : (held : Bool) (l m : ℕ) (s : List ℕ) (i : ℕ) → m < 2 ^ length s → bit (toScan held l m s) i ≡ 1 → i < length s
 unfolding toScan
-to-scan-named true l m s i e = e
-to-scan-named false l m s i e =
-    let r = bit (reachedOf l s) i in
-    let a = and-bit m (reachedOf l s) i in
-    ⊎-elim
-    (λ w. w .1)
-    (λ w. let z = w .0 in absurd (omega arith))
-    (min-two (bit m i) r (bit-small m i) (bit-small (reachedOf l s) i))
+to-scan-below true l m s i h e = below-only m (length s) i h e
+to-scan-below false l m s i h e = below-only (reachedOf l s) (length s) i (reached-lt l s) e
 
 unreached : (x y : ℕ) → one (leb x y) ≡ 0 → y < x
 unfolding one
@@ -158,13 +134,4 @@ pub to-scan-not : (held : Bool) (l m : ℕ) (s : List ℕ) (i : ℕ) → i < len
     → (held ≡ false) × (l < binOf (getD s i 0))
 unfolding toScan
 to-scan-not true l m s i h e n = absurd (omega arith)
-to-scan-not false l m s i h e n =
-    let r = bit (reachedOf l s) i in
-    let a = and-bit m (reachedOf l s) i in
-    let b = reached-bit l s i h in
-    let z : r ≡ 0 =
-    ⊎-elim
-    (λ w. let z = w .0 in absurd (omega arith))
-    (λ w. ⊎-elim (λ (u : bit m i ≡ 0). absurd (omega arith)) (λ (u : r ≡ 0). u) (w .1))
-    (min-two (bit m i) r (bit-small m i) (bit-small (reachedOf l s) i)) in
-    (refl, unreached (binOf (getD s i 0)) l (sym b ∙ z))
+to-scan-not false l m s i h e n = (refl, unreached (binOf (getD s i 0)) l (sym (reached-bit l s i h) ∙ e))

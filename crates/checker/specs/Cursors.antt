@@ -3,7 +3,6 @@ use Prim.Native.Nat.{ℕ, zero, suc, _+_, _-_, _*_, _/_, _%_, _≤_, _<_}
 use mathlib.Core.Bool.{Bool, true, false, not}
 use mathlib.Core.List.{List, [], _∷_}
 use mathlib.Core.Path.{_≡_}
-use lib.Bits.{bitAnd}
 use lib.Dec.{leb, eqb}
 use lib.ListN.{length, getD, take, drop}
 use Rattle.model.proofs.From.{Rise, from}
@@ -51,10 +50,10 @@ unfoldable pub reachedOf : ℕ → List ℕ → ℕ
 reachedOf l [] = 0
 reachedOf l (c ∷ cursors) = reachedOf l cursors * 2 + one (leb (binOf c) l)
 
--- the runs of a mask m that may contradict an answer, or a gap up to l
+-- the runs that may contradict an answer that names the runs of m, or a gap up to l
 unfoldable pub toScan : Bool → ℕ → ℕ → List ℕ → ℕ
 toScan true l m cursors = m
-toScan false l m cursors = bitAnd m (reachedOf l cursors)
+toScan false l m cursors = reachedOf l cursors
 
 -- A run whose first number from f on is h contradicts the answer f, or the gap from f to l.
 unfoldable pub clash : Bool → ℕ → ℕ → ℕ → Bool

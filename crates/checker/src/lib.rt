@@ -70,7 +70,7 @@ fn reached(cursors: &[u64], last: u32) -> u64
     mask
 }
 
-// The runs to scan: all that an answer names, and those that a gap names and that may have a number up to its last bin.
+// The runs to look at: those that an answer names, and for a gap those that may have a number up to its last bin.
 fn to_scan(cursors: &[u64], last: u32, mask: u64, held: bool) -> u64
     requires { ⌜ length (now cursors) ≤ 64 ⌝ }
     ensures { λ r. ⌜ r ≡ toScan held last mask (now (cursors .entry)) ⌝ }
@@ -78,7 +78,7 @@ fn to_scan(cursors: &[u64], last: u32, mask: u64, held: bool) -> u64
     if held {
         return mask;
     }
-    mask & reached(cursors, last)
+    reached(cursors, last)
 }
 
 // The number at a place of a run that ends at `end`, or the number after the last bin at its end.
@@ -116,23 +116,25 @@ fn contradicted(
     requires { ⌜ Cursors (now numbers) (now ends) (now cursors) first × (mask < 2 ^ length (now ends)) ⌝ }
     ensures { λ r. ⌜ (r ≡ anyContradicts (claim held first last mask) (runs (now (numbers .entry)) (now (ends .entry)))) × Cursors (now (numbers .entry)) (now (ends .entry)) (now (cursors .exit)) first ⌝ }
 {
-    // the named runs not known to agree
+    // the runs not known to agree
     let mut rest = to_scan(cursors, last, mask, held);
     'runs: while rest != 0 {
         let run = bits::lowest_run(rest);
-        let i = wide(run);
-        let end = wide(ends[i]);
-        let mut j = place_of(cursors[i]);
-        loop {
-            let x = number_at(numbers, j, end);
-            if first as u64 <= x {
-                if clashes(x, first, last, held) {
-                    break 'runs;
+        if bits::names_run(mask, run) {
+            let i = wide(run);
+            let end = wide(ends[i]);
+            let mut j = place_of(cursors[i]);
+            loop {
+                let x = number_at(numbers, j, end);
+                if first as u64 <= x {
+                    if clashes(x, first, last, held) {
+                        break 'runs;
+                    }
+                    cursors[i] = cursor_at(x, j);
+                    break;
                 }
-                cursors[i] = cursor_at(x, j);
-                break;
+                j += 1;
             }
-            j += 1;
         }
         rest = bits::without_run(rest, run);
     }

@@ -1,4 +1,4 @@
--- `contradicted` scans the runs to look at, and each from its cursor on. The invariant over the runs is `Sofar`, that over the numbers of a run is
+-- `contradicted` looks at the runs that may contradict, and scans each named one from its cursor on. The invariant over the runs is `Sofar`, that over the numbers of a run is
 -- `Scan`; the measures are the mask of the runs left and what is left of the run. Assumes nothing.
 use Prim.Native.Nat.{_-_, _<_}
 use lib.ListN.{length}
@@ -8,7 +8,7 @@ use mathlib.Core.Path.{_≡_, refl, sym, ap, _∙_, subst}
 use native.Mathlib.Omega.{arith}
 use Rattle.checker.specs.Cursors.{Cursors}
 use Rattle.checker.proofs.Moving.{bin-fits}
-use Rattle.checker.proofs.Scanning.{Sofar, sofar-start, sofar-end, Scan, run-below, scan-start, scan-more, scan-on, scan-fits, scan-found, scan-agrees}
+use Rattle.checker.proofs.Scanning.{Sofar, sofar-start, sofar-end, sofar-unnamed, Scan, run-below, scan-start, scan-more, scan-on, scan-fits, scan-found, scan-agrees}
 use borrow.Author.Needs.{needs}
 use Rattle.checker.proofs.contradicted.Statement.{statement}
 use Rattle.checker.proofs.contradicted.Tie as tie
@@ -44,18 +44,22 @@ runs-holds c =
 lowest-run-requires : tie.Need-lowest-run-requires Inv-loop μ-loop Inv-runs μ-runs
 lowest-run-requires c κs = search needs
 
+names-run-requires : tie.Need-names-run-requires Inv-loop μ-loop Inv-runs μ-runs
+names-run-requires c κs = c .lowest-run .ensures .small
+
 wide-requires : tie.Need-wide-requires Inv-loop μ-loop Inv-runs μ-runs
 wide-requires c κs = search needs
 
 mul-wide : tie.Need-mul-wide Inv-loop μ-loop Inv-runs μ-runs
 mul-wide c = search needs
 
-below : (c : tie.After-wide Inv-loop μ-loop Inv-runs μ-runs) → c .wide .result < length (c .before .before .before .before .before .before .before .before .before .args .ends .now)
+below : (c : tie.After-wide Inv-loop μ-loop Inv-runs μ-runs) → c .wide .result < length (c .before .before .before .before .before .before .before .before .before .before .before .args .ends .now)
 below c =
-    let a = c .before .before .before .before .before .before .before .before .before .args in
-    let r = c .before .before .before .runs in
-    run-below (a .numbers .now) (a .ends .now) (a .held) (a .first) (a .last) (a .mask) (r .cursors) (r .rest) (c .before .lowest-run .result) (c .wide .result)
-    (r .inv .0) (c .before .lowest-run .ensures) (c .wide .ensures)
+    let a = c .before .before .before .before .before .before .before .before .before .before .before .args in
+    let r = c .before .before .before .before .before .runs in
+    let o = c .before .before .before .lowest-run in
+    run-below (a .numbers .now) (a .ends .now) (a .held) (a .first) (a .last) (a .mask) (r .cursors) (r .rest) (o .result) (c .wide .result) (r .inv .0)
+    (o .ensures) (c .wide .ensures)
 
 shared-slice-read-wide : tie.Need-shared-slice-read-wide Inv-loop μ-loop Inv-runs μ-runs
 shared-slice-read-wide c = below (c .before)
@@ -69,7 +73,7 @@ mul-place-of c = search needs
 slice-read-place-of : tie.Need-slice-read-place-of Inv-loop μ-loop Inv-runs μ-runs
 slice-read-place-of c =
     let l = below (c .before .before .before) in
-    let e = c .before .before .before .before .before .before .runs .inv .0 .ready .lengths in
+    let e = c .before .before .before .before .before .before .before .before .runs .inv .0 .ready .lengths in
     omega (arith, l, e)
 
 place-of-requires : tie.Need-place-of-requires Inv-loop μ-loop Inv-runs μ-runs
@@ -77,12 +81,14 @@ place-of-requires c κs = search needs
 
 loop-holds : tie.Need-loop-holds Inv-loop μ-loop Inv-runs μ-runs
 loop-holds c =
-    let a = c .before .before .before .before .before .before .before .before .before .before .before .before .before .args in
-    let r = c .before .before .before .before .before .before .before .runs in
+    let a = c .before .before .before .before .before .before .before .before .before .before .before .before .before .before .before .args in
+    let r = c .before .before .before .before .before .before .before .before .before .runs in
     let w = c .before .before .before .before in
-    scan-start (a .numbers .now) (a .ends .now) (a .held) (a .first) (a .last) (a .mask) (r .cursors) (r .rest) (w .before .lowest-run .result) (w .wide .result)
-    (r .inv .0) (w .before .lowest-run .ensures) (w .wide .ensures) (c .before .before .wide2 .result) (c .place-of .result) (c .before .before .wide2 .ensures)
-    (c .place-of .ensures)
+    let o = w .before .before .before .lowest-run in
+    let n = w .before .before .names-run in
+    scan-start (a .numbers .now) (a .ends .now) (a .held) (a .first) (a .last) (a .mask) (r .cursors) (r .rest) (o .result) (w .wide .result) (r .inv .0)
+    (o .ensures) (w .wide .ensures) (n .result) (n .ensures) (w .before .if1 .taken) (c .before .before .wide2 .result) (c .place-of .result)
+    (c .before .before .wide2 .ensures) (c .place-of .ensures)
 
 number-at-requires : tie.Need-number-at-requires Inv-loop μ-loop Inv-runs μ-runs
 number-at-requires c κs =
@@ -96,11 +102,11 @@ cursor-at-requires : tie.Need-cursor-at-requires Inv-loop μ-loop Inv-runs μ-ru
 cursor-at-requires c κs =
     let n = c .before .before .before in
     let p = n .before .before in
-    let a = p .before .before .before .before .before .before .before .before .before .before .before .before .before .args in
-    let r = p .before .before .before .before .before .before .before .runs in
+    let a = p .before .before .before .before .before .before .before .before .before .before .before .before .before .before .before .args in
+    let r = p .before .before .before .before .before .before .before .before .before .runs in
     let w = p .before .before .before .before in
-    scan-fits (a .numbers .now) (a .ends .now) (a .held) (a .first) (a .last) (a .mask) (n .before .loop .cursors) (r .rest) (w .before .lowest-run .result) (w .wide .result)
-    (p .before .before .wide2 .result) (n .before .loop .j) (n .number-at .result) (n .before .loop .inv) (n .number-at .ensures) (c .before .before .if1 .taken)
+    scan-fits (a .numbers .now) (a .ends .now) (a .held) (a .first) (a .last) (a .mask) (n .before .loop .cursors) (r .rest) (w .before .before .before .lowest-run .result)
+    (w .wide .result) (p .before .before .wide2 .result) (n .before .loop .j) (n .number-at .result) (n .before .loop .inv) (n .number-at .ensures) (c .before .before .if2 .taken)
 
 mul-cursors : tie.Need-mul-cursors Inv-loop μ-loop Inv-runs μ-runs
 mul-cursors c = search needs
@@ -115,11 +121,11 @@ slice-write-cursors c =
 add-j : tie.Need-add-j Inv-loop μ-loop Inv-runs μ-runs
 add-j c =
     let p = c .before .before .before in
-    let a = p .before .before .before .before .before .before .before .before .before .before .before .before .before .args in
-    let r = p .before .before .before .before .before .before .before .runs in
+    let a = p .before .before .before .before .before .before .before .before .before .before .before .before .before .before .before .args in
+    let r = p .before .before .before .before .before .before .before .before .before .runs in
     let w = p .before .before .before .before in
-    let m = scan-more (a .numbers .now) (a .ends .now) (a .held) (a .first) (a .last) (a .mask) (c .before .before .loop .cursors) (r .rest) (w .before .lowest-run .result) (w .wide .result)
-    (p .before .before .wide2 .result) (c .before .before .loop .j) (c .before .number-at .result) (c .before .before .loop .inv) (c .before .number-at .ensures) (c .if1 .left) in
+    let m = scan-more (a .numbers .now) (a .ends .now) (a .held) (a .first) (a .last) (a .mask) (c .before .before .loop .cursors) (r .rest) (w .before .before .before .lowest-run .result)
+    (w .wide .result) (p .before .before .wide2 .result) (c .before .before .loop .j) (c .before .number-at .result) (c .before .before .loop .inv) (c .before .number-at .ensures) (c .if2 .left) in
     let h = c .before .before .loop .inv .here .inside in
     let k = c .before .before .loop .inv .sofar .ready .short in
     omega (arith, m, h, k)
@@ -127,46 +133,49 @@ add-j c =
 loop-less : tie.Need-loop-less Inv-loop μ-loop Inv-runs μ-runs
 loop-less c =
     let p = c .before .before .before in
-    let a = p .before .before .before .before .before .before .before .before .before .before .before .before .before .args in
-    let r = p .before .before .before .before .before .before .before .runs in
+    let a = p .before .before .before .before .before .before .before .before .before .before .before .before .before .before .before .args in
+    let r = p .before .before .before .before .before .before .before .before .before .runs in
     let w = p .before .before .before .before in
-    let m = scan-more (a .numbers .now) (a .ends .now) (a .held) (a .first) (a .last) (a .mask) (c .before .before .loop .cursors) (r .rest) (w .before .lowest-run .result) (w .wide .result)
-    (p .before .before .wide2 .result) (c .before .before .loop .j) (c .before .number-at .result) (c .before .before .loop .inv) (c .before .number-at .ensures) (c .if1 .left) in
+    let m = scan-more (a .numbers .now) (a .ends .now) (a .held) (a .first) (a .last) (a .mask) (c .before .before .loop .cursors) (r .rest) (w .before .before .before .lowest-run .result)
+    (w .wide .result) (p .before .before .wide2 .result) (c .before .before .loop .j) (c .before .number-at .result) (c .before .before .loop .inv) (c .before .number-at .ensures) (c .if2 .left) in
     omega (arith, m)
 
 loop-again : tie.Need-loop-again Inv-loop μ-loop Inv-runs μ-runs
 loop-again c =
     let p = c .before .before .before in
-    let a = p .before .before .before .before .before .before .before .before .before .before .before .before .before .args in
-    let r = p .before .before .before .before .before .before .before .runs in
+    let a = p .before .before .before .before .before .before .before .before .before .before .before .before .before .before .before .args in
+    let r = p .before .before .before .before .before .before .before .before .before .runs in
     let w = p .before .before .before .before in
-    scan-on (a .numbers .now) (a .ends .now) (a .held) (a .first) (a .last) (a .mask) (c .before .before .loop .cursors) (r .rest) (w .before .lowest-run .result) (w .wide .result)
-    (p .before .before .wide2 .result) (c .before .before .loop .j) (c .before .number-at .result) (c .before .before .loop .inv) (c .before .number-at .ensures) (c .if1 .left)
+    scan-on (a .numbers .now) (a .ends .now) (a .held) (a .first) (a .last) (a .mask) (c .before .before .loop .cursors) (r .rest) (w .before .before .before .lowest-run .result)
+    (w .wide .result) (p .before .before .wide2 .result) (c .before .before .loop .j) (c .before .number-at .result) (c .before .before .loop .inv) (c .before .number-at .ensures) (c .if2 .left)
 
 without-run-requires : tie.Need-without-run-requires Inv-loop μ-loop Inv-runs μ-runs
 without-run-requires c κs =
-    let n = c .before .before .before .before in
-    let o = n .before .before .before .before .before .before .before .lowest-run .ensures in
+    let o = c .before .before .lowest-run .ensures in
     (o .small, o .here)
 
 runs-less : tie.Need-runs-less Inv-loop μ-loop Inv-runs μ-runs
 runs-less c =
     let e = c .without-run .ensures in
-    let n = c .before .before .before .before .before in
-    let q = pow-pos (n .before .before .before .before .before .before .before .lowest-run .result) in
+    let q = pow-pos (c .before .before .before .lowest-run .result) in
     omega (arith, e, q)
 
 runs-again : tie.Need-runs-again Inv-loop μ-loop Inv-runs μ-runs
 runs-again c =
-    let n = c .before .before .before .before .before in
-    let p = n .before .before in
-    let a = p .before .before .before .before .before .before .before .before .before .before .before .before .before .args in
-    let r = p .before .before .before .before .before .before .before .runs in
-    let w = p .before .before .before .before in
-    let u = c .before .before .before .clashes in (
-      scan-agrees (a .numbers .now) (a .ends .now) (a .held) (a .first) (a .last) (a .mask) (n .before .loop .cursors) (r .rest) (w .before .lowest-run .result) (w .wide .result)
-          (p .before .before .wide2 .result) (n .before .loop .j) (n .number-at .result) (n .before .loop .inv) (n .number-at .ensures) (c .before .before .before .before .if1 .taken) (u .result) (u .ensures)
-          (c .before .before .if2 .left) (c .before .cursor-at .result) (c .before .cursor-at .ensures) (c .without-run .result) (c .without-run .ensures),
+    let a = c .before .before .before .before .before .before .before .before .before .before .before .args in
+    let r = c .before .before .before .before .before .runs in
+    let o = c .before .before .before .lowest-run in
+    let n = c .before .before .names-run in
+    let e = c .without-run in (
+      ⊎-elim
+          (λ w.
+          subst (λ x. Sofar (a .numbers .now) (a .ends .now) (a .held) (a .first) (a .last) (a .mask) x (e .result)) (sym (w .12))
+          (scan-agrees (a .numbers .now) (a .ends .now) (a .held) (a .first) (a .last) (a .mask) (w .6 .cursors) (r .rest) (o .result) (w .1 .result) (w .3 .result) (w .6 .j) (w .7 .result) (w .6 .inv) (w .7 .ensures) (w .8 .taken)
+          (w .9 .result) (w .9 .ensures) (w .10 .left) (w .11 .result) (w .11 .ensures) (e .result) (e .ensures)))
+          (λ w.
+          subst (λ x. Sofar (a .numbers .now) (a .ends .now) (a .held) (a .first) (a .last) (a .mask) x (e .result)) (sym (w .1))
+          (sofar-unnamed (a .numbers .now) (a .ends .now) (a .held) (a .first) (a .last) (a .mask) (r .cursors) (r .rest) (o .result) (r .inv .0) (o .ensures) (n .result) (n .ensures) (w .0 .left) (e .result) (e .ensures)))
+          (c .before .if1 .came),
       r .inv .1,
     )
 
@@ -180,9 +189,9 @@ outcome c =
       subst (λ x. Cursors (a .numbers .now) (a .ends .now) x (a .first)) (sym (w .1)) (r .inv .0 .ready),
     ))
     (λ w. (
-      scan-found (a .numbers .now) (a .ends .now) (a .held) (a .first) (a .last) (a .mask) (w .7 .cursors) (r .rest) (w .1 .result) (w .2 .result)
-          (w .4 .result) (w .7 .j) (w .8 .result) (w .7 .inv) (w .8 .ensures) (w .9 .taken) (w .10 .result) (w .10 .ensures) (w .11 .taken) (w .0 .taken),
-      subst (λ x. Cursors (a .numbers .now) (a .ends .now) x (a .first)) (sym (w .12)) (w .7 .inv .sofar .ready),
+      scan-found (a .numbers .now) (a .ends .now) (a .held) (a .first) (a .last) (a .mask) (w .9 .cursors) (r .rest) (w .1 .result) (w .4 .result) (w .6 .result) (w .9 .j) (w .10 .result) (w .9 .inv) (w .10 .ensures) (w .11 .taken)
+          (w .12 .result) (w .12 .ensures) (w .13 .taken) (w .0 .taken),
+      subst (λ x. Cursors (a .numbers .now) (a .ends .now) x (a .first)) (sym (w .14)) (w .9 .inv .sofar .ready),
     ))
     (c .runs-test .came)
 
@@ -203,6 +212,7 @@ contradicted-spec =
     to-scan-requires
     runs-holds
     lowest-run-requires
+    names-run-requires
     wide-requires
     mul-wide
     shared-slice-read-wide
