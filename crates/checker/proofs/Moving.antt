@@ -1,15 +1,15 @@
 -- A run scanned from its cursor on, over the numbers below a bin, and what its first number from the bin on says of an answer or a gap. Assumes nothing.
-use Prim.Native.Nat.{ℕ, zero, suc, _+_, _-_, _≤_, _<_}
+use Prim.Native.Nat.{ℕ, suc, _+_, _-_, _≤_, _<_}
 use lib.Dec.{leb, eqb}
-use lib.ListN.{length, getD, take, drop, set, length-set}
+use lib.ListN.{length, getD, set, length-set}
 use lib.Seq.{getD-set-same, getD-set-other}
 use mathlib.Core.Bool.{Bool, true, false, not}
-use mathlib.Core.List.{List, [], _∷_}
+use mathlib.Core.List.{List, []}
 use mathlib.Core.Logic.{⊎-elim, _≢_}
 use mathlib.Core.Path.{_≡_, refl, sym, ap, _∙_, subst}
 use native.Mathlib.Numerals.{add-one}
 use native.Mathlib.Omega.{arith}
-use Rattle.model.proofs.From.{Rise, rise-from, from, from-pass, from-stop, from-nil, head-cons, head-nil, head-bin}
+use Rattle.model.proofs.From.{rise-from, from, from-pass, from-stop, from-nil, head-cons, head-nil, head-bin}
 use Rattle.model.proofs.Slices.{part-cons, part-empty}
 use Rattle.model.proofs.Tests.{lt-or-le, eq-or-ne}
 use Rattle.model.specs.Runs.{pastBin, slice}

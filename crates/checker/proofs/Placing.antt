@@ -1,6 +1,6 @@
 -- The cursors put at the runs' first numbers, and what the first checks give for them. Assumes nothing.
 use Prim.Native.Nat.{ℕ, zero, suc, _+_, _-_, _≤_, _<_}
-use lib.ListN.{length, getD, take, drop, set, length-set}
+use lib.ListN.{length, getD, set, length-set}
 use lib.Seq.{getD-set-same, getD-set-other}
 use mathlib.Core.List.{List, [], _∷_, List·Memᴰ, List·Memᴰ·head, List·Memᴰ·tail}
 use mathlib.Core.Logic.{⊎-elim, _≢_}
@@ -9,12 +9,12 @@ use native.Mathlib.Numerals.{add-one}
 use native.Mathlib.Omega.{arith}
 use Rattle.first_checks.proofs.Laws.{Ordered, next-end, next-ordered}
 use Rattle.model.proofs.FirstChecks.{first-passed, fit}
-use Rattle.model.proofs.From.{Rise, from}
+use Rattle.model.proofs.From.{from}
 use Rattle.model.proofs.Tests.{eq-or-ne}
 use Rattle.model.specs.Demands.{Fits}
 use Rattle.model.specs.Refusals.{passed, firstChecks}
-use Rattle.model.specs.Runs.{Run, pastBin, runs, runsFrom, slice}
-use Rattle.checker.specs.Cursors.{startOf, binsOf, placeOf, Cursors, Begins}
+use Rattle.model.specs.Runs.{pastBin, runs, runsFrom, slice}
+use Rattle.checker.specs.Cursors.{startOf, placeOf, Cursors, Begins}
 use Rattle.checker.proofs.Reaching.{place-at, bin-at}
 
 -- the cursors of the runs before i are placed

@@ -8,7 +8,7 @@ use lib.Seq.{drop-cons}
 use mathlib.Core.Bool.{Bool, true, false}
 use mathlib.Core.List.{List, [], _∷_}
 use mathlib.Core.Logic.{⊎-elim}
-use mathlib.Core.Path.{_≡_, refl, sym, ap, _∙_, subst}
+use mathlib.Core.Path.{_≡_, refl, sym, ap, _∙_}
 use mir.Val.{boolByte}
 use native.Mathlib.Nat.{pow-suc}
 use native.Mathlib.Omega.{arith}

@@ -4,7 +4,7 @@ use mathlib.Core.Bool.{Bool, true, false, not}
 use mathlib.Core.List.{List, [], _∷_}
 use mathlib.Core.Path.{_≡_}
 use lib.Dec.{leb, eqb}
-use lib.ListN.{length, getD, take, drop}
+use lib.ListN.{length, getD}
 use Rattle.model.proofs.From.{Rise, from}
 use Rattle.model.specs.Certificate.{Part, answer, gap, lastOf}
 use Rattle.model.specs.Refusals as model

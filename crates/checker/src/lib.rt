@@ -3,7 +3,7 @@ ghost use mathlib.Core.Path.{_≡_};
 ghost use mathlib.Core.Bool.{not, _||_};
 ghost use Prim.Native.Nat.{suc, _/_, _^_, _≤_, _<_};
 ghost use lib.Count.{ones};
-ghost use lib.Dec.{eqb, leb, ltb};
+ghost use lib.Dec.{eqb, ltb};
 ghost use lib.ListN.{length};
 ghost use Rattle.model.specs.Certificate.{lastOf};
 ghost use Rattle.model.specs.Refusals.{anyContradicts, checkFrom, check};
@@ -316,7 +316,7 @@ fn check_all(
 }
 
 // Whether a certificate, whoever wrote it, is true of the lists and the threshold: it covers all bins in order, and each part is true of the runs that
-// it names. At most as many steps as there are numbers, and for each part as there are runs.
+// it names. Each number is passed at most once, and for each part each run is looked at at most twice.
 pub fn check(numbers: &[u32], ends: &[u32], threshold: u32, certificate: &[u8]) -> Verdict
     ensures verdict { λ r. ⌜ verdictIs r ≡ check (now (numbers .entry)) (now (ends .entry)) threshold (now (certificate .entry)) ⌝ }
     ensures accepted { λ r. ⌜ Accepted (now (numbers .entry)) (now (ends .entry)) threshold (now (certificate .entry)) (verdictIs r) ⌝ }

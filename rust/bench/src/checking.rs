@@ -6,7 +6,7 @@ use quorum::Outcome;
 use std::time::Duration;
 
 const RUNS: usize = 64;
-const THRESHOLDS: [u32; 2] = [1, 32];
+const THRESHOLDS: [u32; 3] = [1, 2, 32];
 
 type Shape = (&'static str, fn(usize) -> Input);
 

@@ -1,5 +1,6 @@
 //! Times the library on 1,048,576 numbers beside the reference walk, a heap
-//! merge with counting and a sort with counting.
+//! merge with counting and a sort with counting, and a check of the walk's own
+//! certificate beside the query.
 //!
 //!     cargo run --release -p bench -- [--only SUBSTRING] [--reps N]
 //!

@@ -1,7 +1,7 @@
 -- `begin` puts each cursor at its run. The invariant is `Placed`; the measure is the number of runs left. Assumes nothing.
 use Prim.Native.Nat.{_-_}
 use lib.ListN.{length}
-use mathlib.Core.Path.{_≡_, refl, sym, ap, _∙_, subst}
+use mathlib.Core.Path.{_≡_, sym, _∙_}
 use native.Mathlib.Omega.{arith}
 use Rattle.checker.proofs.Placing.{Placed, placed-none, placed-on, placed-all}
 use borrow.Author.Needs.{needs}

@@ -1,10 +1,10 @@
--- `contradicted` looks at the runs that may contradict, and scans each named one from its cursor on. The invariant over the runs is `Sofar`, that over the numbers of a run is
--- `Scan`; the measures are the mask of the runs left and what is left of the run. Assumes nothing.
+-- `contradicted` looks at the runs that may contradict, and scans each named one from its cursor on. The invariant over the runs is `Sofar`, that over
+-- the numbers of a run is `Scan`; the measures are the mask of the runs left and what is left of the run. Assumes nothing.
 use Prim.Native.Nat.{_-_, _<_}
 use lib.ListN.{length}
 use lib.Pow.{pow-pos}
 use mathlib.Core.Logic.{⊎-elim}
-use mathlib.Core.Path.{_≡_, refl, sym, ap, _∙_, subst}
+use mathlib.Core.Path.{_≡_, sym, _∙_, subst}
 use native.Mathlib.Omega.{arith}
 use Rattle.checker.specs.Cursors.{Cursors}
 use Rattle.checker.proofs.Moving.{bin-fits}

@@ -1,5 +1,4 @@
 -- `tested` makes the tests of a part in order. Assumes nothing.
-use mathlib.Core.Path.{_≡_, refl, sym, ap, _∙_, subst}
 use lib.ListN.{length}
 use native.Mathlib.Omega.{arith}
 use Rattle.checker.proofs.Moving.{bin-fits}
