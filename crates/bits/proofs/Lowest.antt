@@ -15,11 +15,11 @@ use Rattle.model.specs.Runs.{bit}
 
 -- The lowest run.
 
-bit-zero : (m : ℕ) → bit m 0 ≡ m % 2
+pub bit-zero : (m : ℕ) → bit m 0 ≡ m % 2
 bit-zero m = bit-of m 0 ∙ ap (λ (x : ℕ). x % 2) (div-one m)
 
 -- a run past the first is a run of the half
-bit-half : (m i : ℕ) → bit m (suc i) ≡ bit (m / 2) i
+pub bit-half : (m i : ℕ) → bit m (suc i) ≡ bit (m / 2) i
 bit-half m i =
     let e : 1 + i ≡ suc i = omega arith in
     bit-of m (suc i) ∙ (ap (λ (x : ℕ). m / 2 ^ x % 2) (sym e) ∙ (ap (λ (x : ℕ). x % 2) (sym (shr-shr m 1 i)) ∙ sym (bit-of (m / 2) i)))

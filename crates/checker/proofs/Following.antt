@@ -67,19 +67,19 @@ plus-counted a n (gap f l m) (invalid x y) = refl
 
 -- ---- the loop
 
-pub record Along (numbers ends : List ℕ) (t : ℕ) (certificate positions : List ℕ) (bin at answers parts : ℕ) : Type 0 where
-  pub cursors : Cursors numbers ends positions bin
+pub record Along (numbers ends : List ℕ) (t : ℕ) (certificate cursors : List ℕ) (bin at answers parts : ℕ) : Type 0 where
+  pub ready : Cursors numbers ends cursors bin
   pub same : checkFrom (length certificate) (runs numbers ends) t 0 0 certificate
       ≡ plus answers parts (checkFrom (length certificate - parts) (runs numbers ends) t bin at (drop at certificate))
   pub few : answers ≤ parts
   pub slow : parts ≤ at
 
-pub along-start : (numbers ends : List ℕ) (t : ℕ) (certificate positions : List ℕ) → Cursors numbers ends positions 0
-    → Along numbers ends t certificate positions 0 0 0 0
-along-start numbers ends t certificate positions c =
+pub along-start : (numbers ends : List ℕ) (t : ℕ) (certificate cursors : List ℕ) → Cursors numbers ends cursors 0
+    → Along numbers ends t certificate cursors 0 0 0 0
+along-start numbers ends t certificate cursors c =
     let z : length certificate - 0 ≡ length certificate = omega arith in
     record {
-      cursors = c;
+      ready = c;
       same =
           sym (plus-none (checkFrom (length certificate) (runs numbers ends) t 0 0 certificate))
           ∙ (λ i. plus 0 0 (checkFrom (sym z i) (runs numbers ends) t 0 0 certificate));
@@ -87,8 +87,8 @@ along-start numbers ends t certificate positions c =
       slow = omega arith;
     }
 
-module _ (numbers ends : List ℕ) (t : ℕ) (certificate positions : List ℕ) (bin at answers parts : ℕ)
-    (h : Along numbers ends t certificate positions bin at answers parts) where
+module _ (numbers ends : List ℕ) (t : ℕ) (certificate cursors : List ℕ) (bin at answers parts : ℕ)
+    (h : Along numbers ends t certificate cursors bin at answers parts) where
   step : at < length certificate
       → checkFrom (length certificate) (runs numbers ends) t 0 0 certificate
       ≡ plus answers parts
@@ -118,12 +118,12 @@ module _ (numbers ends : List ℕ) (t : ℕ) (certificate positions : List ℕ) 
   next-is x q next e r = subst (λ y. EndsFrom at y) e r
 
   pub along-refused : at < length certificate → (x : field.Field) (q : code.Part) (next : ℕ) → x ≡ Read q next
-      → readingOf certificate x ≡ readField (drop at certificate) → (positions′ : List ℕ) (number : ℕ)
-      → PartChecked numbers ends t bin (partOf q) positions′ number → number ≢ 0
+      → readingOf certificate x ≡ readField (drop at certificate) → (cursors′ : List ℕ) (number : ℕ)
+      → PartChecked numbers ends t bin (partOf q) cursors′ number → number ≢ 0
       → invalid number at ≡ checkFrom (length certificate) (runs numbers ends) t 0 0 certificate
   unfolding plus numbered
-  along-refused l x q next e r positions′ zero c n = absurd (n refl)
-  along-refused l x q next e r positions′ (suc number) c n =
+  along-refused l x q next e r cursors′ zero c n = absurd (n refl)
+  along-refused l x q next e r cursors′ (suc number) c n =
       sym
       (step l
       ∙ ap (plus answers parts)
@@ -131,18 +131,18 @@ module _ (numbers ends : List ℕ) (t : ℕ) (certificate positions : List ℕ) 
       (drop next certificate) (partOf q) (readable l x q next e r) (c .refused-by at)))
 
   pub along-on : at < length certificate → (x : field.Field) (q : code.Part) (next : ℕ) → x ≡ Read q next
-      → readingOf certificate x ≡ readField (drop at certificate) → EndsFrom at x → (positions′ : List ℕ) (number : ℕ)
-      → PartChecked numbers ends t bin (partOf q) positions′ number → number ≡ 0 → (bin′ more : ℕ) → bin′ ≡ suc (lastOf (partOf q))
-      → more ≡ answersIn (partOf q) → Along numbers ends t certificate positions′ bin′ next (answers + more) (parts + 1)
+      → readingOf certificate x ≡ readField (drop at certificate) → EndsFrom at x → (cursors′ : List ℕ) (number : ℕ)
+      → PartChecked numbers ends t bin (partOf q) cursors′ number → number ≡ 0 → (bin′ more : ℕ) → bin′ ≡ suc (lastOf (partOf q))
+      → more ≡ answersIn (partOf q) → Along numbers ends t certificate cursors′ bin′ next (answers + more) (parts + 1)
   unfolding numbered
-  along-on l x q next e r d positions′ number c n bin′ more eb em =
+  along-on l x q next e r d cursors′ number c n bin′ more eb em =
       let y = next-is x q next e d in
       let s = size-pos (partOf q) in
       let w = answers-few (partOf q) in
       let o = h .few in
       let k = h .slow in
       record {
-        cursors = subst (λ z. Cursors numbers ends positions′ z) (sym eb) (c .cursors n);
+        ready = subst (λ z. Cursors numbers ends cursors′ z) (sym eb) (c .ready n);
         same =
             step l
             ∙ (ap (plus answers parts)

@@ -1,60 +1,33 @@
--- A cursor moved over the numbers of its run that are below a bin, and what the run then says of an answer or a gap. Assumes nothing.
-use Prim.Native.Nat.{ℕ, zero, suc, _+_, _-_, _≤_, _<_}
-use borrow.Author.Tests.{eq-eqb, ne-eqb, le-leb, lt-leb}
+-- A run scanned from its cursor on, over the numbers below a bin, and what its first number from the bin on says of an answer or a gap. Assumes nothing.
+use Prim.Native.Nat.{ℕ, suc, _+_, _-_, _≤_, _<_}
 use lib.Dec.{leb, eqb}
-use lib.ListN.{length, getD, take, drop, set, length-set}
+use lib.ListN.{length, getD, set, length-set}
 use lib.Seq.{getD-set-same, getD-set-other}
 use mathlib.Core.Bool.{Bool, true, false, not}
-use mathlib.Core.List.{List, [], _∷_}
+use mathlib.Core.List.{List, []}
 use mathlib.Core.Logic.{⊎-elim, _≢_}
 use mathlib.Core.Path.{_≡_, refl, sym, ap, _∙_, subst}
 use native.Mathlib.Numerals.{add-one}
 use native.Mathlib.Omega.{arith}
-use Rattle.model.proofs.From.{Rise, from, from-pass, from-stop, from-nil, head-cons, head-nil}
+use Rattle.model.proofs.From.{rise-from, from, from-pass, from-stop, from-nil, head-cons, head-nil, head-bin}
 use Rattle.model.proofs.Slices.{part-cons, part-empty}
-use Rattle.model.proofs.Tests.{eq-or-ne}
+use Rattle.model.proofs.Tests.{lt-or-le, eq-or-ne}
 use Rattle.model.specs.Runs.{pastBin, slice}
 use Rattle.model.specs.Walk.{headOf}
-use Rattle.checker.specs.Cursors.{binsOf, headIn, MovesOn, Cursors, clash}
+use Rattle.checker.specs.Cursors.{binsOf, headIn, placeOf, binOf, Cursors, clash}
 
 pub bin-fits : (x : ℕ) → x < 4294967296 → x < pastBin
 unfolding pastBin
 bin-fits x h = h
 
-pub not-true : (b : Bool) → not b ≡ true → b ≡ false
-not-true true e = sym e
-not-true false e = refl
+-- ---- the number at a place
 
--- ---- one cursor
+pub number-there : (numbers : List ℕ) (j end : ℕ) → j < end → end ≤ length numbers → getD numbers j 0 ≡ headOf (slice numbers j end)
+number-there numbers j end h l = sym (ap headOf (part-cons j end numbers h l) ∙ head-cons (getD numbers j 0) (slice numbers (suc j) end))
 
--- a cursor at i: nothing from `first` on was passed
-pub record Here (numbers : List ℕ) (place end first i : ℕ) : Type 0 where
-  pub onward : place ≤ i
-  pub order : i ≤ end
-  pub inside : end ≤ length numbers
-  pub same : (v : ℕ) → first ≤ v → from v (slice numbers place end) ≡ from v (slice numbers i end)
-
-pub here-start : (numbers : List ℕ) (place end first : ℕ) → place ≤ end → end ≤ length numbers → Here numbers place end first place
-here-start numbers place end first h l = record { onward = omega arith; order = h; inside = l; same = λ v q. refl }
-
-pub here-on : (numbers : List ℕ) (place end first i : ℕ) → Here numbers place end first i → i < end → getD numbers i 0 < first
-    → Here numbers place end first (i + 1)
-here-on numbers place end first i h l q =
-    let o = h .onward in
-    record {
-      onward = omega arith;
-      order = omega arith;
-      inside = h .inside;
-      same = λ v w.
-          h .same v w
-          ∙ (ap (from v) (part-cons i end numbers l (h .inside))
-          ∙ (from-pass v (getD numbers i 0) (slice numbers (suc i) end) (omega arith)
-          ∙ ap (λ x. from v (slice numbers x end)) (sym (add-one i))));
-    }
-
-pub here-end : (numbers : List ℕ) (place end first i : ℕ) → Here numbers place end first i → (i < end → first ≤ getD numbers i 0)
-    → MovesOn numbers place end first i
-here-end numbers place end first i h s = record { onward = h .onward; order = h .order; same = h .same; stops = s }
+pub number-past : (numbers : List ℕ) (j end : ℕ) → j ≡ end → 4294967296 ≡ headOf (slice numbers j end)
+unfolding pastBin
+number-past numbers j end e = sym (ap headOf ((λ s. slice numbers (e s) end) ∙ part-empty end numbers) ∙ head-nil)
 
 -- ---- what a run says
 
@@ -68,71 +41,115 @@ unfolding clash
 clash-missed true f l x e = Rattle.model.proofs.Tests.true-false refl e
 clash-missed false f l x e = refl
 
--- without a number from `first` on, it contradicts an answer and no gap
-pub clash-past : (held : Bool) (f l x : ℕ) → f < pastBin → l < pastBin → x ≡ pastBin → held ≡ clash held f l x
-unfolding clash
-clash-past true f l x i j e = let n : x ≢ f = omega arith in rw (ne-eqb x f n)
-clash-past false f l x i j e = sym (lt-leb x l (omega arith))
+-- ---- the scan of a run
 
--- ---- run i with its cursor moved
+-- run i scanned up to place j: nothing from `first` on was passed
+pub record Here (numbers ends : List ℕ) (i end first j : ℕ) : Type 0 where
+  pub order : j ≤ end
+  pub inside : end ≤ length numbers
+  pub ending : end ≡ getD ends i 0
+  pub same : (v : ℕ) → first ≤ v → from v (binsOf numbers ends i) ≡ from v (slice numbers j end)
 
--- where run i stands
-pub stands : (numbers ends positions : List ℕ) (i f p e : ℕ) → i < length ends → Cursors numbers ends positions f → p ≡ getD positions i 0
-    → e ≡ getD ends i 0 → (p ≤ e) × (e ≤ length numbers)
-stands numbers ends positions i f p e l c ep ee =
+pub here-start : (numbers ends cursors : List ℕ) (i end first j : ℕ) → i < length ends → Cursors numbers ends cursors first → end ≡ getD ends i 0
+    → j ≡ placeOf (getD cursors i 0) → Here numbers ends i end first j
+here-start numbers ends cursors i end first j l c ee ej =
     let b = c .before i l in
     let d = c .inside i l in
-    (omega arith, omega arith)
+    record {
+      order = omega arith;
+      inside = omega arith;
+      ending = ee;
+      same = λ v h. c .same i l v h ∙ (λ s. from v (slice numbers (sym ej s) (sym ee s)));
+    }
 
-module _ (numbers ends positions : List ℕ) (i f p e q : ℕ) (l : i < length ends) (c : Cursors numbers ends positions f)
-    (ep : p ≡ getD positions i 0) (ee : e ≡ getD ends i 0) (m : MovesOn numbers p e f q) where
-  inside : e ≤ length numbers
-  inside = stands numbers ends positions i f p e l c ep ee .1
+not-below : (a b : ℕ) → a ≡ 4294967296 → a < b → b < pastBin → ⊥
+unfolding pastBin
+not-below a b e h k = omega arith
 
-  same-here : (v : ℕ) → f ≤ v → from v (binsOf numbers ends i) ≡ from v (slice numbers q e)
-  same-here v h =
-      c .same i l v h
-      ∙ ((λ j. from v (slice numbers (sym ep j) (sym ee j))) ∙ m .same v h)
+module _ (numbers ends : List ℕ) (i end first j x : ℕ) (h : Here numbers ends i end first j) (e : x ≡ headOf (slice numbers j end)) where
+  pub here-more : x < first → first < pastBin → j < end
+  here-more l k =
+      ⊎-elim
+      (λ (q : j < end). q)
+      (λ (q : end ≤ j).
+      let o = h .order in
+      let w : j ≡ end = omega arith in
+      let z : 4294967296 ≡ headOf (slice numbers j end) = number-past numbers j end w in
+      absurd (not-below x first (e ∙ sym z) l k))
+      (lt-or-le j end)
 
-  pub head-past : q ≡ e → headIn numbers ends i f ≡ pastBin
-  head-past h =
-      ap headOf (same-here f (omega arith) ∙ ((λ j. from f (slice numbers (h j) e)) ∙ (ap (from f) (part-empty e numbers) ∙ from-nil f))) ∙ head-nil
+  pub here-on : x < first → first < pastBin → Here numbers ends i end first (j + 1)
+  here-on l k =
+      let m = here-more l k in
+      let y = number-there numbers j end m (h .inside) in
+      record {
+        order = omega arith;
+        inside = h .inside;
+        ending = h .ending;
+        same = λ v w.
+            h .same v w
+            ∙ (ap (from v) (part-cons j end numbers m (h .inside))
+            ∙ (from-pass v (getD numbers j 0) (slice numbers (suc j) end) (omega arith)
+            ∙ ap (λ z. from v (slice numbers z end)) (sym (add-one j))));
+      }
 
-  pub head-is : q ≢ e → headIn numbers ends i f ≡ getD numbers q 0
-  head-is n =
-      let o = m .order in
-      let h : q < e = omega arith in
+  -- a scan stops at the run's first number from `first` on
+  pub here-head : first ≤ x → headIn numbers ends i first ≡ x
+  here-head l =
+      ⊎-elim
+      (λ (q : j < end).
+      let y = number-there numbers j end q (h .inside) in
       ap headOf
-      (same-here f (omega arith)
-      ∙ (ap (from f) (part-cons q e numbers h inside) ∙ from-stop f (getD numbers q 0) (slice numbers (suc q) e) (m .stops h)))
-      ∙ head-cons (getD numbers q 0) (slice numbers (suc q) e)
+      (h .same first (omega arith)
+      ∙ (ap (from first) (part-cons j end numbers q (h .inside)) ∙ from-stop first (getD numbers j 0) (slice numbers (suc j) end) (omega arith)))
+      ∙ (head-cons (getD numbers j 0) (slice numbers (suc j) end) ∙ omega arith))
+      (λ (q : end ≤ j).
+      let o = h .order in
+      let w : slice numbers j end ≡ [] = let z : j ≡ end = omega arith in (λ s. slice numbers (z s) end) ∙ part-empty end numbers in
+      ap headOf (h .same first (omega arith) ∙ (ap (from first) w ∙ from-nil first)) ∙ (sym (ap headOf w) ∙ sym e))
+      (lt-or-le j end)
 
-  pub cursors-on : (positions′ : List ℕ) → positions′ ≡ set positions i q → Cursors numbers ends positions′ f
-  cursors-on positions′ r =
+-- ---- a cursor put where the scan stopped
+
+module _ (numbers ends cursors : List ℕ) (i end first j x w : ℕ) (l : i < length ends) (c : Cursors numbers ends cursors first)
+    (h : Here numbers ends i end first j) (e : headIn numbers ends i first ≡ x) (ew : (placeOf w ≡ j) × (binOf w ≡ x)) where
+  pub cursors-on : (cursors′ : List ℕ) → cursors′ ≡ set cursors i w → Cursors numbers ends cursors′ first
+  cursors-on cursors′ r =
       let z = c .lengths in
-      let a : getD positions′ i 0 ≡ q = ap (λ x. getD x i 0) r ∙ getD-set-same positions i q 0 (omega arith) in
+      let a : getD cursors′ i 0 ≡ w = ap (λ y. getD y i 0) r ∙ getD-set-same cursors i w 0 (omega arith) in
       record {
         few = c .few;
+        short = c .short;
         inside = c .inside;
         risen = c .risen;
-        lengths = ap length r ∙ (length-set positions i q ∙ z);
-        before = λ j h.
+        lengths = ap length r ∙ (length-set cursors i w ∙ z);
+        before = λ n k.
             ⊎-elim
-            (λ (w : j ≡ i).
-            let o = m .order in
-            let u = ap (λ x. getD positions′ x 0) w in
-            let y = ap (λ x. getD ends x 0) w in
-            omega arith)
-            (λ (w : j ≢ i). let u = other j w positions′ r in let b = c .before j h in omega arith)
-            (eq-or-ne j i);
-        same = λ j h v k.
+            (λ (q : n ≡ i).
+            subst (λ y. placeOf (getD cursors′ y 0) ≤ getD ends y 0) (sym q)
+            (let o = h .order in let d = h .ending in let p = ap placeOf a ∙ ew .0 in omega arith))
+            (λ (q : n ≢ i). subst (λ y. placeOf y ≤ getD ends n 0) (sym (other n q cursors′ r)) (c .before n k))
+            (eq-or-ne n i);
+        same = λ n k v g.
             ⊎-elim
-            (λ (w : j ≡ i).
-            subst (λ x. from v (binsOf numbers ends x) ≡ from v (slice numbers (getD positions′ x 0) (getD ends x 0))) (sym w)
-            (same-here v k ∙ (λ s. from v (slice numbers (sym a s) (ee s)))))
-            (λ (w : j ≢ i). c .same j h v k ∙ (λ s. from v (slice numbers (sym (other j w positions′ r) s) (getD ends j 0))))
-            (eq-or-ne j i);
+            (λ (q : n ≡ i).
+            subst (λ y. from v (binsOf numbers ends y) ≡ from v (slice numbers (placeOf (getD cursors′ y 0)) (getD ends y 0))) (sym q)
+            (h .same v g ∙ (λ s. from v (slice numbers (sym (ap placeOf a ∙ ew .0) s) (h .ending s)))))
+            (λ (q : n ≢ i). c .same n k v g ∙ (λ s. from v (slice numbers (placeOf (sym (other n q cursors′ r) s)) (getD ends n 0))))
+            (eq-or-ne n i);
+        ahead = λ n k.
+            ⊎-elim
+            (λ (q : n ≡ i).
+            subst (λ y. binOf (getD cursors′ y 0) ≤ headIn numbers ends y first) (sym q)
+            (let p = ap binOf a ∙ ew .1 in omega arith))
+            (λ (q : n ≢ i). subst (λ y. binOf y ≤ headIn numbers ends n first) (sym (other n q cursors′ r)) (c .ahead n k))
+            (eq-or-ne n i);
       }
     where
-      other : (j : ℕ) → j ≢ i → (ps : List ℕ) → ps ≡ set positions i q → getD ps j 0 ≡ getD positions j 0
-      other j w ps r = ap (λ x. getD x j 0) r ∙ getD-set-other positions i j q 0 w
+      other : (n : ℕ) → n ≢ i → (ps : List ℕ) → ps ≡ set cursors i w → getD ps n 0 ≡ getD cursors n 0
+      other n q ps r = ap (λ y. getD y n 0) r ∙ getD-set-other cursors i n w 0 q
+
+-- the first number from a bin on, or the number after the last bin, fits a cursor
+pub head-fits : (numbers ends cursors : List ℕ) (i first b : ℕ) → i < length ends → Cursors numbers ends cursors b → headIn numbers ends i first ≤ 4294967296
+unfolding pastBin
+head-fits numbers ends cursors i first b l c = head-bin (rise-from first (binsOf numbers ends i) (c .risen i l))

@@ -1,23 +1,28 @@
 -- The tests of one part, each as a law about the model's checks in order. Assumes nothing.
-use Prim.Native.Nat.{ℕ, zero, suc, _+_, _-_, _/_, _^_, _≤_, _<_}
-use borrow.Author.Tests.{eq-eqb, ne-eqb, lt-ltb, le-ltb}
+use Prim.Native.Nat.{ℕ, suc, _+_, _-_, _/_, _^_, _≤_, _<_}
+use borrow.Author.Tests.{eq-eqb, ne-eqb, lt-ltb, le-ltb, eqb-true, not-false}
 use lib.Count.{ones}
 use lib.Dec.{ltb, eqb}
-use lib.ListN.{length, getD}
+use lib.ListN.{length}
+use lib.Pow.{pow-pos}
 use mathlib.Core.Bool.{Bool, true, false, _||_, not}
 use mathlib.Core.List.{List}
-use mathlib.Core.Logic.{_≢_}
+use mathlib.Core.Logic.{⊎-elim, _≢_}
 use mathlib.Core.Path.{_≡_, refl, sym, ap, _∙_, subst}
+use native.Mathlib.Nat.{one-mul, div-lt-iff-lt-mul}
 use native.Mathlib.Numerals.{add-one}
 use native.Mathlib.Omega.{arith}
 use Rattle.fields.specs.Fields.{partOf}
 use Rattle.fields.specs.declared.Part as code
 use Rattle.fields.specs.declared.Part.the-variants.{Answer, Gap}
 use Rattle.model.proofs.FirstChecks.{runs-length}
+use Rattle.model.proofs.From.{Rise, from, rise-from, from-mem, mem-from, rise-least, head-bin, head-below-mem, head-mem}
+use Rattle.model.proofs.Tests.{lt-or-le, or-false}
 use Rattle.model.specs.Certificate.{firstOf, lastOf}
 use Rattle.model.specs.Refusals.{_then_, refuseIf, misplaced, misnamed, anyContradicts, checkPart}
 use Rattle.model.specs.Runs.{pastBin, runs}
-use Rattle.checker.specs.Cursors.{Cursors, claim, needed, numbered, Tested, PartChecked, answersIn}
+use Rattle.model.specs.Walk.{headOf}
+use Rattle.checker.specs.Cursors.{binsOf, Cursors, claim, needed, numbered, Tested, PartChecked, answersIn}
 
 pub misnames-few : (b : Bool) (x y few : ℕ) → b ≡ true → x ≡ y → ltb x few ≡ (not b || ltb y few)
 misnames-few b x y few e h = rw (e, h)
@@ -25,15 +30,35 @@ misnames-few b x y few e h = rw (e, h)
 pub misnames-other : (b c : Bool) → b ≡ false → true ≡ (not b || c)
 misnames-other b c e = rw e
 
-pub weaken : (numbers ends positions : List ℕ) (a b : ℕ) → a ≤ b → Cursors numbers ends positions a → Cursors numbers ends positions b
-weaken numbers ends positions a b h c =
+-- a mask that names no run from k on
+pub named-below : (m k : ℕ) (c b : Bool) → b ≡ (not (eqb (m / 2 ^ k) 0) || c) → b ≡ false → m < 2 ^ k
+named-below m k c b e h =
+    let z = eqb-true (m / 2 ^ k) 0 (not-false (eqb (m / 2 ^ k) 0) (or-false (not (eqb (m / 2 ^ k) 0)) c (sym e ∙ h) .0)) in
+    let i = div-lt-iff-lt-mul {x = m} {y = 1} (pow-pos k) .0 (omega arith) in
+    omega (arith, one-mul (2 ^ k))
+
+-- the first number from a later bin on is not below the one from an earlier bin on
+head-later : (a b : ℕ) (s : List ℕ) → a ≤ b → Rise 0 s → headOf (from a s) ≤ headOf (from b s)
+head-later a b s h r =
+    ⊎-elim
+    (λ (q : headOf (from b s) < pastBin).
+    let m = head-mem (from b s) q in
+    let l = rise-least (rise-from b s r) m in
+    head-below-mem (rise-from a s r) (mem-from a s (omega arith) (from-mem b s m)))
+    (λ (q : pastBin ≤ headOf (from b s)). let k = head-bin (rise-from a s r) in omega arith)
+    (lt-or-le (headOf (from b s)) pastBin)
+
+pub weaken : (numbers ends cursors : List ℕ) (a b : ℕ) → a ≤ b → Cursors numbers ends cursors a → Cursors numbers ends cursors b
+weaken numbers ends cursors a b h c =
     record {
       few = c .few;
+      short = c .short;
       inside = c .inside;
       risen = c .risen;
       lengths = c .lengths;
       before = c .before;
       same = λ i l v q. c .same i l v (omega arith);
+      ahead = λ i l. let g = c .ahead i l in let m = head-later a b (binsOf numbers ends i) h (c .risen i l) in omega arith;
     }
 
 first-is : (held : Bool) (f l m : ℕ) → firstOf (claim held f l m) ≡ f
@@ -51,16 +76,16 @@ unfolding misnamed claim needed
 named-is numbers ends true f l m few t q = rw (runs-are numbers ends, q)
 named-is numbers ends false f l m few t q = rw (runs-are numbers ends, q)
 
-module _ (numbers ends : List ℕ) (b : ℕ) (held : Bool) (f l m few : ℕ) (positions : List ℕ) (el : lastOf (claim held f l m) ≡ l) where
-  misplaced-here : misplaced b (claim held f l m) ≡ true → Tested numbers ends b held f l m few positions 9
+module _ (numbers ends : List ℕ) (b : ℕ) (held : Bool) (f l m few : ℕ) (cursors : List ℕ) (el : lastOf (claim held f l m) ≡ l) where
+  misplaced-here : misplaced b (claim held f l m) ≡ true → Tested numbers ends b held f l m few cursors 9
   unfolding checkPart _then_ refuseIf numbered
-  misplaced-here e = record { refused-by = λ t at q. rw e; cursors = λ z. absurd (omega arith) }
+  misplaced-here e = record { refused-by = λ t at q. rw e; ready = λ z. absurd (omega arith) }
 
-  pub other-first : f ≢ b → Tested numbers ends b held f l m few positions 9
+  pub other-first : f ≢ b → Tested numbers ends b held f l m few cursors 9
   unfolding misplaced
   other-first n = misplaced-here (rw (first-is held f l m, ne-eqb f b n))
 
-  pub other-last : f ≡ b → l < f → Tested numbers ends b held f l m few positions 9
+  pub other-last : f ≡ b → l < f → Tested numbers ends b held f l m few cursors 9
   unfolding misplaced
   other-last e h = misplaced-here (rw (first-is held f l m, el, eq-eqb f b e, lt-ltb l f h))
 
@@ -71,31 +96,31 @@ module _ (numbers ends : List ℕ) (b : ℕ) (held : Bool) (f l m few : ℕ) (po
       rw (first-is held f l m, el, eq-eqb f b e, le-ltb l f h, ne-eqb b pastBin n)
 
   pub misnamed-here : f ≡ b → f ≤ l → f < pastBin → (x : Bool) → x ≡ (not (eqb (m / 2 ^ length ends) 0) || ltb (ones m) few) → x ≡ true
-      → Tested numbers ends b held f l m few positions 10
+      → Tested numbers ends b held f l m few cursors 10
   unfolding checkPart _then_ refuseIf numbered
   misnamed-here e h k x i j =
       record {
         refused-by = λ t at q. rw (placed e h k, named-is numbers ends held f l m few t q ∙ (sym i ∙ j));
-        cursors = λ z. absurd (omega arith);
+        ready = λ z. absurd (omega arith);
       }
 
   pub contradicted-here : f ≡ b → f ≤ l → f < pastBin → (x : Bool) → x ≡ (not (eqb (m / 2 ^ length ends) 0) || ltb (ones m) few) → x ≡ false
-      → (y : Bool) → y ≡ anyContradicts (claim held f l m) (runs numbers ends) → y ≡ true → Tested numbers ends b held f l m few positions 11
+      → (y : Bool) → y ≡ anyContradicts (claim held f l m) (runs numbers ends) → y ≡ true → Tested numbers ends b held f l m few cursors 11
   unfolding checkPart _then_ refuseIf numbered
   contradicted-here e h k x i j y u v =
       record {
         refused-by = λ t at q. rw (placed e h k, named-is numbers ends held f l m few t q ∙ (sym i ∙ j), sym u ∙ v);
-        cursors = λ z. absurd (omega arith);
+        ready = λ z. absurd (omega arith);
       }
 
   pub passed-here : f ≡ b → f ≤ l → f < pastBin → (x : Bool) → x ≡ (not (eqb (m / 2 ^ length ends) 0) || ltb (ones m) few) → x ≡ false
-      → (y : Bool) → y ≡ anyContradicts (claim held f l m) (runs numbers ends) → y ≡ false → Cursors numbers ends positions f
-      → Tested numbers ends b held f l m few positions 0
+      → (y : Bool) → y ≡ anyContradicts (claim held f l m) (runs numbers ends) → y ≡ false → Cursors numbers ends cursors f
+      → Tested numbers ends b held f l m few cursors 0
   unfolding checkPart _then_ refuseIf numbered
   passed-here e h k x i j y u v c =
       record {
         refused-by = λ t at q. rw (placed e h k, named-is numbers ends held f l m few t q ∙ (sym i ∙ j), sym u ∙ v);
-        cursors = λ z. weaken numbers ends positions f (suc (lastOf (claim held f l m))) (omega arith) c;
+        ready = λ z. weaken numbers ends cursors f (suc (lastOf (claim held f l m))) (omega arith) c;
       }
 
 -- ---- the code's parts
@@ -108,19 +133,19 @@ pub gap-last : (f l m : ℕ) → lastOf (claim false f l m) ≡ l
 unfolding claim lastOf
 gap-last f l m = refl
 
-pub answer-checked : (numbers ends : List ℕ) (b v m t : ℕ) (positions : List ℕ) (n : ℕ) (q : code.Part) → q ≡ Answer v m
-    → Tested numbers ends b true v v m t positions n → PartChecked numbers ends t b (partOf q) positions n
+pub answer-checked : (numbers ends : List ℕ) (b v m t : ℕ) (cursors : List ℕ) (n : ℕ) (q : code.Part) → q ≡ Answer v m
+    → Tested numbers ends b true v v m t cursors n → PartChecked numbers ends t b (partOf q) cursors n
 unfolding claim needed partOf
-answer-checked numbers ends b v m t positions n q e h =
-    subst (λ x. PartChecked numbers ends t b (partOf x) positions n) (sym e)
-    (record { refused-by = λ at. h .refused-by t at refl; cursors = h .cursors })
+answer-checked numbers ends b v m t cursors n q e h =
+    subst (λ x. PartChecked numbers ends t b (partOf x) cursors n) (sym e)
+    (record { refused-by = λ at. h .refused-by t at refl; ready = h .ready })
 
-pub gap-checked : (numbers ends : List ℕ) (b f l m t : ℕ) (positions : List ℕ) (n : ℕ) (q : code.Part) → q ≡ Gap f l m
-    → Tested numbers ends b false f l m (length ends - t + 1) positions n → PartChecked numbers ends t b (partOf q) positions n
+pub gap-checked : (numbers ends : List ℕ) (b f l m t : ℕ) (cursors : List ℕ) (n : ℕ) (q : code.Part) → q ≡ Gap f l m
+    → Tested numbers ends b false f l m (length ends - t + 1) cursors n → PartChecked numbers ends t b (partOf q) cursors n
 unfolding claim needed partOf
-gap-checked numbers ends b f l m t positions n q e h =
-    subst (λ x. PartChecked numbers ends t b (partOf x) positions n) (sym e)
-    (record { refused-by = λ at. h .refused-by t at refl; cursors = h .cursors })
+gap-checked numbers ends b f l m t cursors n q e h =
+    subst (λ x. PartChecked numbers ends t b (partOf x) cursors n) (sym e)
+    (record { refused-by = λ at. h .refused-by t at refl; ready = h .ready })
 
 pub past-answer : (v m : ℕ) (q : code.Part) → q ≡ Answer v m → v + 1 ≡ suc (lastOf (partOf q))
 unfolding partOf lastOf

@@ -6,10 +6,11 @@ ghost use lib.Count.{ones};
 ghost use lib.Dec.{eqb, ltb};
 ghost use lib.ListN.{length};
 ghost use Rattle.model.specs.Certificate.{lastOf};
-ghost use Rattle.model.specs.Refusals.{contradicts, anyContradicts, checkFrom, check};
-ghost use Rattle.model.specs.Runs.{runs};
+ghost use Rattle.model.specs.Refusals.{anyContradicts, checkFrom, check};
+ghost use Rattle.model.specs.Runs.{one, slice, runs};
+ghost use Rattle.model.specs.Walk.{headOf};
 ghost use Rattle.fields.specs.Fields.{partOf};
-ghost use Rattle.checker.specs.Cursors.{MovesOn, Cursors, clash, headIn, runAt, claim, Tested, PartChecked, answersIn, Begins};
+ghost use Rattle.checker.specs.Cursors.{placeOf, binOf, reachedOf, toScan, Cursors, clash, claim, Tested, PartChecked, answersIn, Begins};
 ghost use Rattle.checker.specs.Verdicts.{verdictIs, Accepted};
 use fields::Field;
 use fields::Part;
@@ -27,94 +28,117 @@ fn wide(x: u32) -> usize
     x as usize
 }
 
-// The first place from `place` on, and before `end`, whose number is not below `first`; `end` where there is none.
-fn move_on(numbers: &[u32], place: usize, end: usize, first: u32) -> usize
-    requires { ⌜ (place ≤ end) × (end ≤ length (now numbers)) ⌝ }
-    ensures { λ r. ⌜ MovesOn (now (numbers .entry)) place end first r ⌝ }
+fn long(x: u32) -> u64
+    ensures { λ r. ⌜ r ≡ x ⌝ }
 {
-    let mut i = place;
-    while i < end {
-        if first <= numbers[i] {
-            return i;
-        }
-        i += 1;
+    x as u64
+}
+
+// A cursor of a run: a bin × 2097152 + a place. The run has no number that is still uncovered before the place, and none below the bin.
+fn cursor_at(bin: u64, place: usize) -> u64
+    requires { ⌜ (bin ≤ 4294967296) × (place < 2097152) ⌝ }
+    ensures { λ r. ⌜ (placeOf r ≡ place) × (binOf r ≡ bin) ⌝ }
+{
+    bin * 2097152 + place as u64
+}
+
+fn place_of(cursor: u64) -> usize
+    ensures { λ r. ⌜ r ≡ placeOf cursor ⌝ }
+{
+    (cursor % 2097152) as usize
+}
+
+fn one_if_below(x: u64, limit: u64) -> u64
+    ensures { λ r. ⌜ r ≡ one (ltb x limit) ⌝ }
+{
+    (x < limit) as u64
+}
+
+// The runs whose cursor's bin is not above `last`. No other run has an uncovered number up to `last`. No branch depends on a cursor, since which
+// runs have moved cannot be foretold.
+fn reached(cursors: &[u64], last: u32) -> u64
+    requires { ⌜ length (now cursors) ≤ 64 ⌝ }
+    ensures { λ r. ⌜ r ≡ reachedOf last (now (cursors .entry)) ⌝ }
+{
+    let limit = (last as u64 + 1) * 2097152;
+    let mut mask: u64 = 0;
+    let mut i = cursors.len();
+    while 0 < i {
+        i -= 1;
+        mask = mask * 2 + one_if_below(cursors[i], limit);
     }
-    i
+    mask
+}
+
+// The runs to look at: those that an answer names, and for a gap those that may have a number up to its last bin.
+fn to_scan(cursors: &[u64], last: u32, mask: u64, held: bool) -> u64
+    requires { ⌜ length (now cursors) ≤ 64 ⌝ }
+    ensures { λ r. ⌜ r ≡ toScan held last mask (now (cursors .entry)) ⌝ }
+{
+    if held {
+        return mask;
+    }
+    reached(cursors, last)
+}
+
+// The number at a place of a run that ends at `end`, or the number after the last bin at its end.
+fn number_at(numbers: &[u32], place: usize, end: usize) -> u64
+    requires { ⌜ (place ≤ end) × (end ≤ length (now numbers)) ⌝ }
+    ensures { λ r. ⌜ r ≡ headOf (slice (now (numbers .entry)) place end) ⌝ }
+{
+    if place < end {
+        return long(numbers[place]);
+    }
+    4294967296
 }
 
 // Whether a run whose first number from `first` on is `x` contradicts an answer `first`, or else a gap from `first` to `last`.
-fn clashes(x: u32, first: u32, last: u32, held: bool) -> bool
+fn clashes(x: u64, first: u32, last: u32, held: bool) -> bool
     ensures { λ r. ⌜ r ≡ clash held first last x ⌝ }
 {
     if held {
-        return x != first;
+        return x != first as u64;
     }
-    x <= last
+    x <= last as u64
 }
 
-// Whether run `i` contradicts an answer or a gap. The run's cursor moves on to its first number from `first` on, and never back.
-fn run_clashes(
-    numbers: &[u32],
-    ends: &[u32],
-    positions: &mut [u32],
-    i: usize,
-    first: u32,
-    last: u32,
-    held: bool,
-) -> bool
-    requires { ⌜ (i < length (now ends)) × Cursors (now numbers) (now ends) (now positions) first ⌝ }
-    ensures { λ r. ⌜ (r ≡ clash held first last (headIn (now (numbers .entry)) (now (ends .entry)) i first)) × Cursors (now (numbers .entry)) (now (ends .entry)) (now (positions .exit)) first ⌝ }
-{
-    let end = wide(ends[i]);
-    let place = move_on(numbers, wide(positions[i]), end, first);
-    positions[i] = place as u32;
-    if place == end {
-        return held;
-    }
-    clashes(numbers[place], first, last, held)
-}
-
-// Whether the mask names run `i` and the run contradicts an answer or a gap.
-fn named_clashes(
-    numbers: &[u32],
-    ends: &[u32],
-    positions: &mut [u32],
-    i: usize,
-    first: u32,
-    last: u32,
-    mask: u64,
-    held: bool,
-) -> bool
-    requires { ⌜ (i < length (now ends)) × Cursors (now numbers) (now ends) (now positions) first ⌝ }
-    ensures { λ r. ⌜ (r ≡ contradicts (claim held first last mask) (runAt (now (numbers .entry)) (now (ends .entry)) i)) × Cursors (now (numbers .entry)) (now (ends .entry)) (now (positions .exit)) first ⌝ }
-{
-    if !bits::names_run(mask, i as u32) {
-        return false;
-    }
-    run_clashes(numbers, ends, positions, i, first, last, held)
-}
-
-// Whether a run that the mask names contradicts an answer or a gap.
+// Whether a run that the mask names contradicts an answer or a gap. A run is scanned from its cursor on to its first number from `first` on. The cursor
+// stays there, and never goes back.
 fn contradicted(
     numbers: &[u32],
     ends: &[u32],
-    positions: &mut [u32],
+    cursors: &mut [u64],
     first: u32,
     last: u32,
     mask: u64,
     held: bool,
 ) -> bool
-    requires { ⌜ Cursors (now numbers) (now ends) (now positions) first ⌝ }
-    ensures { λ r. ⌜ (r ≡ anyContradicts (claim held first last mask) (runs (now (numbers .entry)) (now (ends .entry)))) × Cursors (now (numbers .entry)) (now (ends .entry)) (now (positions .exit)) first ⌝ }
+    requires { ⌜ Cursors (now numbers) (now ends) (now cursors) first × (mask < 2 ^ length (now ends)) ⌝ }
+    ensures { λ r. ⌜ (r ≡ anyContradicts (claim held first last mask) (runs (now (numbers .entry)) (now (ends .entry)))) × Cursors (now (numbers .entry)) (now (ends .entry)) (now (cursors .exit)) first ⌝ }
 {
-    let mut i: usize = 0;
-    while i < ends.len() {
-        if named_clashes(numbers, ends, positions, i, first, last, mask, held) {
-            return true;
+    // the runs not known to agree
+    let mut rest = to_scan(cursors, last, mask, held);
+    'runs: while rest != 0 {
+        let run = bits::lowest_run(rest);
+        if bits::names_run(mask, run) {
+            let i = wide(run);
+            let end = wide(ends[i]);
+            let mut j = place_of(cursors[i]);
+            loop {
+                let x = number_at(numbers, j, end);
+                if first as u64 <= x {
+                    if clashes(x, first, last, held) {
+                        break 'runs;
+                    }
+                    cursors[i] = cursor_at(x, j);
+                    break;
+                }
+                j += 1;
+            }
         }
-        i += 1;
+        rest = bits::without_run(rest, run);
     }
-    false
+    rest != 0
 }
 
 // Whether the mask names a run from `k` on, or fewer than `few`.
@@ -132,7 +156,7 @@ fn misnames(mask: u64, k: usize, few: usize) -> bool
 fn tested(
     numbers: &[u32],
     ends: &[u32],
-    positions: &mut [u32],
+    cursors: &mut [u64],
     bin: u64,
     first: u32,
     last: u32,
@@ -140,8 +164,8 @@ fn tested(
     held: bool,
     few: usize,
 ) -> u8
-    requires { ⌜ Cursors (now numbers) (now ends) (now positions) bin × (lastOf (claim held first last mask) ≡ last) ⌝ }
-    ensures { λ r. ⌜ Tested (now (numbers .entry)) (now (ends .entry)) bin held first last mask few (now (positions .exit)) r ⌝ }
+    requires { ⌜ Cursors (now numbers) (now ends) (now cursors) bin × (lastOf (claim held first last mask) ≡ last) ⌝ }
+    ensures { λ r. ⌜ Tested (now (numbers .entry)) (now (ends .entry)) bin held first last mask few (now (cursors .exit)) r ⌝ }
 {
     if first as u64 != bin {
         return 9;
@@ -152,7 +176,7 @@ fn tested(
     if misnames(mask, ends.len(), few) {
         return 10;
     }
-    if contradicted(numbers, ends, positions, first, last, mask, held) {
+    if contradicted(numbers, ends, cursors, first, last, mask, held) {
         return 11;
     }
     0
@@ -163,18 +187,18 @@ fn check_part(
     numbers: &[u32],
     ends: &[u32],
     threshold: usize,
-    positions: &mut [u32],
+    cursors: &mut [u64],
     bin: u64,
     part: Part,
 ) -> u8
-    requires { ⌜ Cursors (now numbers) (now ends) (now positions) bin × (threshold ≤ length (now ends)) ⌝ }
-    ensures { λ r. ⌜ PartChecked (now (numbers .entry)) (now (ends .entry)) threshold bin (partOf part) (now (positions .exit)) r ⌝ }
+    requires { ⌜ Cursors (now numbers) (now ends) (now cursors) bin × (threshold ≤ length (now ends)) ⌝ }
+    ensures { λ r. ⌜ PartChecked (now (numbers .entry)) (now (ends .entry)) threshold bin (partOf part) (now (cursors .exit)) r ⌝ }
 {
     match part {
         Part::Answer { value, mask } => tested(
             numbers,
             ends,
-            positions,
+            cursors,
             bin,
             value,
             value,
@@ -185,7 +209,7 @@ fn check_part(
         Part::Gap { first, last, mask } => tested(
             numbers,
             ends,
-            positions,
+            cursors,
             bin,
             first,
             last,
@@ -221,10 +245,10 @@ fn check_parts(
     numbers: &[u32],
     ends: &[u32],
     threshold: usize,
-    positions: &mut [u32],
+    cursors: &mut [u64],
     certificate: &[u8],
 ) -> Verdict
-    requires { ⌜ Cursors (now numbers) (now ends) (now positions) 0 × (threshold ≤ length (now ends)) ⌝ }
+    requires { ⌜ Cursors (now numbers) (now ends) (now cursors) 0 × (threshold ≤ length (now ends)) ⌝ }
     ensures { λ r. ⌜ verdictIs r ≡ checkFrom (length (now (certificate .entry))) (runs (now (numbers .entry)) (now (ends .entry))) threshold 0 0 (now (certificate .entry)) ⌝ }
 {
     let mut bin: u64 = 0;
@@ -238,7 +262,7 @@ fn check_parts(
                 place: at,
             };
         };
-        let number = check_part(numbers, ends, threshold, positions, bin, part);
+        let number = check_part(numbers, ends, threshold, cursors, bin, part);
         if number != 0 {
             return Verdict::Invalid {
                 number: number,
@@ -263,14 +287,14 @@ fn check_parts(
 }
 
 // Puts each run's cursor at its first number.
-fn begin(numbers: &[u32], ends: &[u32], positions: &mut [u32])
-    requires { ⌜ Begins (now numbers) (now ends) (now positions) ⌝ }
-    ensures { λ _. ⌜ Cursors (now (numbers .entry)) (now (ends .entry)) (now (positions .exit)) 0 ⌝ }
+fn begin(numbers: &[u32], ends: &[u32], cursors: &mut [u64])
+    requires { ⌜ Begins (now numbers) (now ends) (now cursors) ⌝ }
+    ensures { λ _. ⌜ Cursors (now (numbers .entry)) (now (ends .entry)) (now (cursors .exit)) 0 ⌝ }
 {
     let mut start: u32 = 0;
     let mut i: usize = 0;
     while i < ends.len() {
-        positions[i] = start;
+        cursors[i] = long(start);
         start = ends[i];
         i += 1;
     }
@@ -281,18 +305,18 @@ fn check_all(
     numbers: &[u32],
     ends: &[u32],
     threshold: usize,
-    positions: &mut [u32],
+    cursors: &mut [u64],
     certificate: &[u8],
 ) -> Verdict
-    requires { ⌜ Begins (now numbers) (now ends) (now positions) × (threshold ≤ length (now ends)) ⌝ }
+    requires { ⌜ Begins (now numbers) (now ends) (now cursors) × (threshold ≤ length (now ends)) ⌝ }
     ensures { λ r. ⌜ verdictIs r ≡ checkFrom (length (now (certificate .entry))) (runs (now (numbers .entry)) (now (ends .entry))) threshold 0 0 (now (certificate .entry)) ⌝ }
 {
-    begin(numbers, ends, positions);
-    check_parts(numbers, ends, threshold, positions, certificate)
+    begin(numbers, ends, cursors);
+    check_parts(numbers, ends, threshold, cursors, certificate)
 }
 
 // Whether a certificate, whoever wrote it, is true of the lists and the threshold: it covers all bins in order, and each part is true of the runs that
-// it names. At most as many steps as there are numbers, and for each part as there are runs.
+// it names. Each number is passed at most once, and for each part each run is looked at at most twice.
 pub fn check(numbers: &[u32], ends: &[u32], threshold: u32, certificate: &[u8]) -> Verdict
     ensures verdict { λ r. ⌜ verdictIs r ≡ check (now (numbers .entry)) (now (ends .entry)) threshold (now (certificate .entry)) ⌝ }
     ensures accepted { λ r. ⌜ Accepted (now (numbers .entry)) (now (ends .entry)) threshold (now (certificate .entry)) (verdictIs r) ⌝ }
@@ -307,13 +331,13 @@ pub fn check(numbers: &[u32], ends: &[u32], threshold: u32, certificate: &[u8]) 
             place: place,
         };
     }
-    let mut positions = [0u32; 64];
+    let mut cursors = [0u64; 64];
     let k = ends.len();
     check_all(
         numbers,
         ends,
         wide(threshold),
-        &mut positions[0..k],
+        &mut cursors[0..k],
         certificate,
     )
 }

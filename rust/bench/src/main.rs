@@ -1,5 +1,6 @@
 //! Times the library on 1,048,576 numbers beside the reference walk, a heap
-//! merge with counting and a sort with counting.
+//! merge with counting and a sort with counting, and a check of the walk's own
+//! certificate beside the query.
 //!
 //!     cargo run --release -p bench -- [--only SUBSTRING] [--reps N]
 //!
@@ -8,6 +9,7 @@
 #![forbid(unsafe_code)]
 
 mod baselines;
+mod checking;
 mod inputs;
 
 use inputs::{Input, NUMBERS};
@@ -113,6 +115,7 @@ fn main() -> ExitCode {
             }
         }
     }
+    checking::report(&options.only, options.repetitions);
     println!(
         "All buffers were allocated and written once before timing and not cleared between \
          repetitions."

@@ -167,7 +167,7 @@ pub fn query(
 /// # Cost
 ///
 /// One pass over `numbers` for the first checks, then at most one more and
-/// parts × runs steps.
+/// 2 × parts × runs steps.
 ///
 /// # Example
 ///

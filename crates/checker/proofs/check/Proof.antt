@@ -47,11 +47,11 @@ wide-requires c κs = search needs
 sub-check-all : tie.Need-sub-check-all
 sub-check-all c = search needs
 
-part-positions-start : tie.Need-part-positions-start
-part-positions-start c = search needs
+part-cursors-start : tie.Need-part-cursors-start
+part-cursors-start c = search needs
 
-part-positions-end : tie.Need-part-positions-end
-part-positions-end c =
+part-cursors-end : tie.Need-part-cursors-end
+part-cursors-end c =
     let a = c .before .before .before .before .before .before .before .args in
     few-runs (a .numbers .now) (a .ends .now) (a .threshold) (has-passed (c .before))
 
@@ -82,7 +82,7 @@ check-spec =
     enum-told
     wide-requires
     sub-check-all
-    part-positions-start
-    part-positions-end
+    part-cursors-start
+    part-cursors-end
     check-all-requires
     returns-2)

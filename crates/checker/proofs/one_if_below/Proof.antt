@@ -1,0 +1,14 @@
+-- `one_if_below` compares two numbers. Assumes nothing.
+use Rattle.checker.proofs.Reaching.{below-is}
+use borrow.Author.Needs.{needs}
+use Rattle.checker.proofs.one_if_below.Statement.{statement}
+use Rattle.checker.proofs.one_if_below.Tie as tie
+
+cast-result : tie.Need-cast-result
+cast-result c = search needs
+
+returns : tie.Need-returns
+returns c = below-is (c .args .x) (c .args .limit)
+
+pub one-if-below-spec : {M : Type 1} → statement M
+one-if-below-spec = tie.close (tie.spec cast-result returns)
