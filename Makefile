@@ -1,6 +1,12 @@
-.PHONY: run test bench fmt
+.PHONY: run claims test bench fmt
+
+# a question for the program hits: make run INPUT=file
+INPUT = examples/hits/listing.txt
 
 run:
+	@bash scripts/run.sh "$(INPUT)"
+
+claims:
 	@sh scripts/claims.sh
 
 test:

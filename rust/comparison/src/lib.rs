@@ -1,5 +1,5 @@
-//! Compares the library behind `quorum` with `reference`, which is written
-//! from the specification alone. The comparisons are in `tests`; here is what
+//! Compares the library behind `quorum`, and the program `hits`, with
+//! `reference`, which is written from the specification alone. The comparisons are in `tests`; here is what
 //! they share.
 //!
 //! Every random case is made from its own seed, which a failure prints.
@@ -9,8 +9,10 @@
 
 pub mod broken;
 pub mod certificates;
+pub mod program;
 pub mod question;
 pub mod shapes;
+pub mod texts;
 
 use std::fmt;
 

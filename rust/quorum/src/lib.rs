@@ -34,6 +34,11 @@ pub mod ffi;
 
 use std::fmt;
 
+/// The README's lines are compiled and run as a documentation test.
+#[cfg(doctest)]
+#[doc = include_str!("../../../README.md")]
+struct Readme;
+
 /// The ground of a refusal and where it was met.
 #[derive(Clone, Copy, Debug, PartialEq, Eq)]
 pub struct Refusal {

@@ -1,0 +1,294 @@
+//! The program `hits` against the reference, byte for byte: stored runs, and
+//! good questions, broken texts and texts at the limits from seeds.
+
+use comparison::program::{self, print_of};
+use comparison::seeds;
+use comparison::texts::{break_bytes, near_a_limit, short_bytes, Text, MOST_BYTES};
+use reference::testing::{instances, Random, M};
+use std::collections::{BTreeMap, BTreeSet};
+use std::fs;
+use std::path::PathBuf;
+
+/// Runs the program and counts its refusals; 0 stands for none.
+struct Comparer {
+    program: PathBuf,
+    places: BTreeMap<u64, Vec<u64>>,
+}
+
+impl Comparer {
+    fn new() -> Comparer {
+        Comparer {
+            program: program::hits(),
+            places: BTreeMap::new(),
+        }
+    }
+
+    /// Compares what both print for the input.
+    fn compare(&mut self, name: &str, input: &[u8]) {
+        self.compare_pieces(name, input, input.len() + 1);
+    }
+
+    /// The same with the input handed to the program in pieces of a size.
+    fn compare_pieces(&mut self, name: &str, input: &[u8], size: usize) {
+        let pieces: Vec<&[u8]> = input.chunks(size).collect();
+        let printed = print_of(&self.program, &pieces);
+        let expected = reference::hits(input);
+        assert!(
+            printed == expected,
+            "{name}: {} bytes, {}\nprinted {}\nexpected {}",
+            input.len(),
+            front(input),
+            front(&printed),
+            front(&expected)
+        );
+        let text = String::from_utf8(expected).expect("it is ASCII");
+        let mut words = text.split_whitespace();
+        let refusal = match words.next() {
+            Some("refuse") => words.map(|word| word.parse().expect("a number")).collect(),
+            _ => vec![0, 0],
+        };
+        self.places.entry(refusal[0]).or_default().push(refusal[1]);
+    }
+
+    fn compare_seed(&mut self, seed: u64, input: &[u8]) {
+        self.compare(&format!("seed {seed}"), input);
+    }
+
+    /// Each of these refusals was met so often, and at several places.
+    fn met(&self, refusals: &[(u64, usize, usize)]) {
+        let counts: BTreeMap<u64, (usize, usize)> = self
+            .places
+            .iter()
+            .map(|(&refusal, places)| {
+                let different: BTreeSet<_> = places.iter().collect();
+                (refusal, (places.len(), different.len()))
+            })
+            .collect();
+        println!("by refusal, times and different places: {counts:?}");
+        for (refusal, times, places) in refusals {
+            let found = counts.get(refusal).unwrap_or(&(0, 0));
+            assert!(found.0 >= *times && found.1 >= *places, "{counts:?}");
+        }
+    }
+}
+
+/// The first bytes, for a failure's message.
+fn front(bytes: &[u8]) -> String {
+    const MOST: usize = 600;
+    match bytes.get(..MOST) {
+        None => format!("\"{}\"", bytes.escape_ascii()),
+        Some(front) => format!("\"{}\" and so on", front.escape_ascii()),
+    }
+}
+
+/// The stored inputs; the reference prints the stored outputs.
+#[test]
+fn stored_runs() {
+    let mut comparer = Comparer::new();
+    let folder = program::repository().join("examples/hits");
+    for entry in fs::read_dir(folder).unwrap() {
+        let path = entry.unwrap().path();
+        if path.extension().is_some_and(|extension| extension == "txt") {
+            let name = path.display().to_string();
+            let input = fs::read(&path).unwrap();
+            let output = fs::read(path.with_extension("out")).unwrap();
+            assert_eq!(front(&reference::hits(&input)), front(&output), "{name}");
+            comparer.compare(&name, &input);
+        }
+    }
+    comparer.met(&[
+        (0, 5, 1),
+        (1, 1, 1),
+        (2, 2, 2),
+        (4, 2, 2),
+        (7, 2, 2),
+        (12, 8, 5),
+    ]);
+}
+
+#[test]
+fn instances_of_document_01() {
+    let mut comparer = Comparer::new();
+    for instance in instances() {
+        let text = Text::of(instance.threshold, instance.allowance, &instance.runs);
+        comparer.compare(&instance.name, &text.bytes());
+    }
+    comparer.met(&[
+        (0, 60, 1),
+        (1, 1, 1),
+        (2, 60, 60),
+        (4, 1, 1),
+        (7, 2, 2),
+        (12, 1, 1),
+    ]);
+}
+
+/// Questions that can be read.
+#[test]
+fn good_questions() {
+    let mut comparer = Comparer::new();
+    for seed in seeds(51, 2_500) {
+        let mut random = Random(seed);
+        let mut text = Text::any(&mut random);
+        text.add_zeros(&mut random);
+        comparer.compare_seed(seed, &text.bytes());
+    }
+    comparer.met(&[(0, 1_500, 1), (2, 100, 10), (4, 100, 30), (7, 200, 20)]);
+}
+
+/// Good questions with one to three changes.
+#[test]
+fn broken_texts() {
+    let mut comparer = Comparer::new();
+    for seed in seeds(52, 3_000) {
+        let mut random = Random(seed);
+        let mut text = Text::any(&mut random);
+        if random.one_in(4) {
+            text.enlarge(&mut random);
+        }
+        let mut bytes = text.bytes();
+        for _ in 0..random.below(4) {
+            break_bytes(&mut random, &mut bytes);
+        }
+        comparer.compare_seed(seed, &bytes);
+    }
+    comparer.met(&[
+        (0, 300, 1),
+        (1, 50, 1),
+        (2, 40, 8),
+        (4, 50, 20),
+        (7, 40, 10),
+        (12, 1_500, 60),
+    ]);
+}
+
+/// Texts with about as many bytes, runs or numbers as there may be.
+#[test]
+fn texts_near_the_limits() {
+    let mut comparer = Comparer::new();
+    for seed in seeds(53, 1_500) {
+        let mut random = Random(seed);
+        let mut bytes = near_a_limit(&mut random).bytes();
+        if random.one_in(4) {
+            break_bytes(&mut random, &mut bytes);
+        }
+        comparer.compare_seed(seed, &bytes);
+    }
+    comparer.met(&[(0, 300, 1), (12, 500, 60)]);
+}
+
+/// Inputs of every length about the limit of bytes, whatever stands there.
+#[test]
+fn every_length_about_the_limit() {
+    let mut comparer = Comparer::new();
+    for length in MOST_BYTES - 3..=MOST_BYTES + 3 {
+        for (front, back) in [
+            ("1 0\n5\n", "7\n"),
+            ("1 0\n5\n", "7"),
+            ("1 0\n5\n", " \n"),
+            ("1 0\n5\n", "7\n\n"),
+            ("1 0\n5\n", "7\nx"),
+            ("1 ", "9\n"),
+            ("x", "\n"),
+            ("1 0\nx\n", "7\n"),
+            ("", ""),
+        ] {
+            let zeros = "0".repeat(length - front.len() - back.len());
+            let input = format!("{front}{zeros}{back}");
+            comparer.compare(&format!("{length} bytes, {back:?}"), input.as_bytes());
+        }
+        let line_ends = vec![b'\n'; length];
+        comparer.compare(&format!("{length} line ends"), &line_ends);
+        let others = vec![0xff; length];
+        comparer.compare(&format!("{length} bytes 255"), &others);
+    }
+    comparer.met(&[(0, 3, 1), (1, 1, 1), (12, 30, 3)]);
+}
+
+/// Short inputs, and all of at most two bytes of a few kinds.
+#[test]
+fn short_inputs() {
+    let mut comparer = Comparer::new();
+    for seed in seeds(54, 1_500) {
+        let mut random = Random(seed);
+        comparer.compare_seed(seed, &short_bytes(&mut random));
+    }
+    let kinds = b"1 \n\rx\xff";
+    comparer.compare("no bytes", b"");
+    for &first in kinds {
+        comparer.compare("one byte", &[first]);
+        for &second in kinds {
+            comparer.compare("two bytes", &[first, second]);
+        }
+    }
+    comparer.met(&[(0, 100, 1), (4, 20, 2), (12, 900, 5)]);
+}
+
+/// Lines of a run, and first lines, at the edges of the form.
+#[test]
+fn lines_at_the_edges() {
+    let mut comparer = Comparer::new();
+    let long = format!("{}1", "0".repeat(5_000));
+    let words = [
+        "",
+        " ",
+        "0",
+        "5",
+        "00",
+        " 5",
+        "5 ",
+        "5  6",
+        "5\t6",
+        "5\r",
+        "\r",
+        "\t",
+        "x",
+        "-5",
+        "+5",
+        "5,6",
+        "5.0",
+        "0x5",
+        "5 6",
+        "6 5",
+        "5 5",
+        "4294967295",
+        "4294967296",
+        "04294967296",
+        "42949672950",
+        "18446744073709551621",
+        "123456789012345678901234567890",
+        "\u{0}",
+        "\u{b2}",
+        "/",
+        ":",
+        &long,
+    ];
+    for word in words {
+        for ending in ["\n", "", "\n\n", "\r\n"] {
+            comparer.compare("a run", format!("1 9\n{word}{ending}").as_bytes());
+            comparer.compare("a threshold", format!("{word} 9{ending}5\n").as_bytes());
+            comparer.compare("an allowance", format!("1 {word}{ending}5 6\n").as_bytes());
+        }
+        comparer.compare("line 1", format!("{word}\n5\n").as_bytes());
+    }
+    let most = format!("{M} {M}\n{M}\n");
+    comparer.compare("the largest numbers", most.as_bytes());
+    comparer.met(&[(0, 20, 1), (1, 5, 1), (2, 10, 4), (4, 2, 1), (12, 300, 2)]);
+}
+
+/// An input that reaches the program bit by bit is read to its end.
+#[test]
+fn inputs_in_pieces() {
+    let mut comparer = Comparer::new();
+    for seed in seeds(55, 60) {
+        let mut random = Random(seed);
+        let mut text = Text::any(&mut random);
+        if random.one_in(3) {
+            text.fill(&mut random, MOST_BYTES + seed as usize % 3);
+        }
+        let bytes = text.bytes();
+        let size = bytes.len() / random.from_to(2, 12) + 1;
+        comparer.compare_pieces(&format!("seed {seed}"), &bytes, size);
+    }
+    comparer.met(&[(0, 10, 1)]);
+}
