@@ -31,7 +31,7 @@ const LARGE: [&str; 9] = [
     "123456789012345678901234567890",
 ];
 
-/// A text as words, from which a line can be taken out or changed.
+/// A text as the words of its lines, before anything in it is broken.
 pub struct Text {
     /// Line 1 and the runs.
     pub lines: Vec<Vec<String>>,
