@@ -61,14 +61,17 @@ fn doubled(s: &[u32], v: u32, left: u32) -> Bracketed
     }
 }
 
-// `n` where x is below v, otherwise 0.
+fn wide(x: u32) -> usize
+    ensures { λ r. ⌜ r ≡ x ⌝ }
+{
+    x as usize
+}
+
+// `n` where x is below v, otherwise 0. By arithmetic, since a compiler may make a branch of a comparison.
 fn if_below(x: u32, v: u32, n: usize) -> usize
     ensures { λ r. ⌜ r ≡ ifBelow x v n ⌝ }
 {
-    if x < v {
-        return n;
-    }
-    0
+    n * ((wide(v) + 4294967295 - wide(x)) / 4294967296)
 }
 
 // Halving between a place below v and one that is not. Which half goes on cannot be foretold, so no branch depends on it.

@@ -1,0 +1,40 @@
+// The program hits: reads a question from standard input and prints its answer (document 01, 'The program hits').
+ghost use mathlib.Core.Path.{_≡_};
+ghost use Prim.Native.Nat.{_≤_};
+ghost use lib.ListN.{length, take};
+ghost use Rattle.hits_text.specs.Hits.{mostText, hits};
+use render::Rendered;
+
+// Room for every text, 262,208 bytes.
+fn room_for_text() -> [u8; 262208]
+    ensures { λ r. ⌜ 262208 ≡ length r ⌝ }
+{
+    [0; 262208]
+}
+
+// Writes the text for an input, and returns how long it is. With enough room the first bytes of the buffer, as many as are returned, are the text.
+fn write_text(input: &[u8], text: &mut [u8]) -> usize
+    ensures { λ r. ⌜ (r ≤ length (now (text .exit))) × (mostText ≤ length (now (text .entry)) → take r (now (text .exit)) ≡ hits (now (input .entry))) ⌝ }
+{
+    if let Rendered::Text(size) = hits_text::text_for(input, text) {
+        return size;
+    }
+    0
+}
+
+fn print_text(input: &[u8], text: &mut [u8]) {
+    let size = write_text(input, text);
+    io::write_all(1, &text[0..size]);
+}
+
+fn answer(input: &[u8]) {
+    let mut text = room_for_text();
+    print_text(input, &mut text[0..262208]);
+}
+
+// One byte more than a question may have is read, so that the fault of byte 65,537 is seen.
+fn main() {
+    let mut input = [0u8; 65537];
+    let n = io::read_full(0, &mut input);
+    answer(&input[..n]);
+}

@@ -1,0 +1,170 @@
+-- What stands in the program's buffers before is of no account: only their lengths matter. Assumes nothing.
+use Prim.Native.Nat.{ℕ, suc, _+_, _-_, _*_, _≤_, _<_}
+use lib.Dec.{ltb}
+use lib.ListN.{length, take, drop, replicate, length-replicate, length-append}
+use lib.Seq.{take-append-seam, length-take-le}
+use mathlib.Core.Bool.{Bool, true, false}
+use mathlib.Core.List.{List, [], _∷_, _++_}
+use mathlib.Core.Logic.{⊎-elim}
+use mathlib.Core.Path.{_≡_, refl, sym, ap, ap₂, _∙_, subst}
+use native.Mathlib.Omega.{arith}
+use Rattle.model.specs.Demands.{Fits}
+use Rattle.model.specs.Refusals.{Check, passed, refusal, firstChecks, Outcome, accepted, refused, outcomeOf, cutWalk, over, query}
+use Rattle.model.specs.Runs.{pastBin, runs}
+use Rattle.parse.specs.Steps.{Returns}
+use Rattle.parse.specs.Text as text
+use Rattle.render.proofs.Printed.{accepted-prints}
+use Rattle.render.specs.Text.{rendered, refuseLine}
+use Rattle.hits_text.specs.Hits.{shown, textFor, parsed, printed, hits}
+
+-- ---- the question
+
+outcome-same : (numbers ends : List ℕ) (t allowance : ℕ) (a b c d : List ℕ) → length a ≡ length c → length b ≡ length d
+    → query numbers ends t allowance a b .outcome ≡ query numbers ends t allowance c d .outcome
+unfolding query
+outcome-same numbers ends t allowance a b c d e f = go (firstChecks numbers ends t) refl
+  where
+    go : (k : Check) → firstChecks numbers ends t ≡ k → query numbers ends t allowance a b .outcome ≡ query numbers ends t allowance c d .outcome
+    go passed q = rw (q, query) (λ i. outcomeOf (cutWalk t (runs numbers ends) allowance (e i) (f i)))
+    go (refusal n p) q = rw (q, query)
+
+rendered-same : (numbers ends : List ℕ) (t allowance : ℕ) (a b c d : List ℕ) → Fits pastBin numbers → (o : Outcome)
+    → query numbers ends t allowance a b .outcome ≡ o → query numbers ends t allowance c d .outcome ≡ o
+    → rendered o (query numbers ends t allowance a b .certificate) ≡ rendered o (query numbers ends t allowance c d .certificate)
+unfolding rendered
+rendered-same numbers ends t allowance a b c d f (accepted x n y q) e g =
+    accepted-prints numbers ends t allowance a b f x n y q e ∙ sym (accepted-prints numbers ends t allowance c d f x n y q g)
+rendered-same numbers ends t allowance a b c d f (refused x p y z q) e g = refl
+
+pub ask-text : (numbers ends : List ℕ) (t allowance : ℕ) (a b : List ℕ) → Fits pastBin numbers → length a ≡ 1024 → length b ≡ 65536
+    → shown (query numbers ends t allowance a b) ≡ textFor numbers ends t allowance
+unfolding textFor shown
+ask-text numbers ends t allowance a b f e g =
+    let c : List ℕ = replicate 1024 0 in
+    let d : List ℕ = replicate 65536 0 in
+    let o = outcome-same numbers ends t allowance a b c d (e ∙ sym (length-replicate {A = ℕ} 1024 0)) (g ∙ sym (length-replicate {A = ℕ} 65536 0)) in
+    rendered-same numbers ends t allowance a b c d f (query numbers ends t allowance a b .outcome) refl (sym o)
+    ∙ ap (λ x. rendered x (query numbers ends t allowance c d .certificate)) o
+
+-- ---- the input
+
+-- Two results say the same: the outcome, and of a question its runs.
+pub record Same (p q : text.Result) : Type 0 where
+  pub outcome : p .outcome ≡ q .outcome
+  pub numbers : (t allowance n m : ℕ) → p .outcome ≡ text.question t allowance n m → take m (p .numbers) ≡ take m (q .numbers)
+  pub ends : (t allowance n m : ℕ) → p .outcome ≡ text.question t allowance n m → take n (p .ends) ≡ take n (q .ends)
+
+take-over : (n : ℕ) (written buffer : List ℕ) → n ≡ length written → take n (over written buffer) ≡ written
+unfolding over
+take-over n written buffer e = ap (λ x. take x (written ++ drop (length written) buffer)) e ∙ take-append-seam written (drop (length written) buffer)
+
+ends-length : (start : ℕ) (rs : List (List ℕ)) → length (text.endsFrom start rs) ≡ length rs
+unfolding text.endsFrom
+ends-length start [] = refl
+ends-length start (r ∷ rs) = ap suc (ends-length (start + length r) rs)
+
+refused-not : {A : Type 0} {p q t x n m : ℕ} → text.refused p q ≡ text.question t x n m → A
+refused-not e = let z : _≡_ {A = ℕ} 0 1 = cc in absurd (omega arith)
+
+result-same : (h : text.Heading) (l : text.Lines) (a b c d : List ℕ) → Same (text.resultOf h l a b) (text.resultOf h l c d)
+unfolding text.resultOf
+result-same text.noHeading l a b c d =
+    record { outcome = refl; numbers = λ t x n m e. refused-not e; ends = λ t x n m e. refused-not e }
+result-same (text.heading u v) (text.faultAt line) a b c d =
+    record { outcome = refl; numbers = λ t x n m e. refused-not e; ends = λ t x n m e. refused-not e }
+result-same (text.heading u v) (text.runsAre rs) a b c d =
+    record {
+      outcome = refl;
+      numbers = λ t x n m e.
+          (let q : m ≡ length (text.row rs) = cc in
+          take-over m (text.row rs) a q ∙ sym (take-over m (text.row rs) c q));
+      ends = λ t x n m e.
+          (let q : n ≡ length rs = cc in
+          let k = ends-length 0 rs in
+          take-over n (text.endsFrom 0 rs) b (omega arith) ∙ sym (take-over n (text.endsFrom 0 rs) d (omega arith)));
+    }
+
+lines-same : (longer : Bool) (ls : List (List ℕ)) (a b c d : List ℕ) → length a ≡ length c → length b ≡ length d
+    → Same (text.parseLines longer ls a b) (text.parseLines longer ls c d)
+unfolding text.parseLines
+lines-same longer [] a b c d e f = result-same text.noHeading (text.runsAre []) a b c d
+lines-same longer (l ∷ []) a b c d e f = result-same text.noHeading (text.runsAre []) a b c d
+lines-same longer (l ∷ next ∷ ls) a b c d e f =
+    let k : text.linesFrom (record { runs = length b; numbers = length a }) 0 0 (next ∷ ls)
+    ≡ text.linesFrom (record { runs = length d; numbers = length c }) 0 0 (next ∷ ls) =
+    λ i. text.linesFrom (record { runs = f i; numbers = e i }) 0 0 (next ∷ ls) in
+    subst (λ x. Same (text.resultOf (text.headingOf l) (text.limited longer (text.linesFrom (record { runs = length b; numbers = length a }) 0 0 (next ∷ ls))) a b)
+    (text.resultOf (text.headingOf l) (text.limited longer x) c d))
+    k (result-same (text.headingOf l) (text.limited longer (text.linesFrom (record { runs = length b; numbers = length a }) 0 0 (next ∷ ls))) a b c d)
+
+pub parse-text : (input a b : List ℕ) → length a ≡ 1024 → length b ≡ 64 → Same (text.parse input a b) (parsed input)
+unfolding text.parse parsed
+parse-text input a b e f =
+    lines-same (ltb text.mostBytes (length input)) (text.split 10 (take text.mostBytes input)) a b (replicate 1024 0) (replicate 64 0)
+    (e ∙ sym (length-replicate {A = ℕ} 1024 0)) (f ∙ sym (length-replicate {A = ℕ} 64 0))
+
+-- a question's numbers and ends stand in the rows
+result-fits : (h : text.Heading) (l : text.Lines) (a b : List ℕ) (t allowance n m : ℕ) → text.resultOf h l a b .outcome ≡ text.question t allowance n m
+    → (m ≤ length (text.resultOf h l a b .numbers)) × (n ≤ length (text.resultOf h l a b .ends))
+unfolding text.resultOf over
+result-fits text.noHeading l a b t x n m e = refused-not e
+result-fits (text.heading u v) (text.faultAt line) a b t x n m e = refused-not e
+result-fits (text.heading u v) (text.runsAre rs) a b t x n m e =
+    let q : m ≡ length (text.row rs) = cc in
+    let k : n ≡ length rs = cc in
+    let j = ends-length 0 rs in
+    let f = length-append (text.row rs) (drop (length (text.row rs)) a) in
+    let g = length-append (text.endsFrom 0 rs) (drop (length (text.endsFrom 0 rs)) b) in
+    (omega arith, omega arith)
+
+lines-fits : (longer : Bool) (ls : List (List ℕ)) (a b : List ℕ) (t allowance n m : ℕ) → text.parseLines longer ls a b .outcome ≡ text.question t allowance n m
+    → (m ≤ length (text.parseLines longer ls a b .numbers)) × (n ≤ length (text.parseLines longer ls a b .ends))
+unfolding text.parseLines
+lines-fits longer [] a b t x n m e = result-fits text.noHeading (text.runsAre []) a b t x n m e
+lines-fits longer (l ∷ []) a b t x n m e = result-fits text.noHeading (text.runsAre []) a b t x n m e
+lines-fits longer (l ∷ next ∷ ls) a b t x n m e =
+    result-fits (text.headingOf l) (text.limited longer (text.linesFrom (record { runs = length b; numbers = length a }) 0 0 (next ∷ ls))) a b t x n m e
+
+parse-fits : (input a b : List ℕ) (t allowance n m : ℕ) → text.parse input a b .outcome ≡ text.question t allowance n m
+    → (m ≤ length (text.parse input a b .numbers)) × (n ≤ length (text.parse input a b .ends))
+unfolding text.parse
+parse-fits input a b t x n m e = lines-fits (ltb text.mostBytes (length input)) (text.split 10 (take text.mostBytes input)) a b t x n m e
+
+-- ---- what is printed
+
+prints-refusal : (input : List ℕ) (n p : ℕ) → parsed input .outcome ≡ text.refused n p → hits input ≡ refuseLine n p
+unfolding hits printed
+prints-refusal input n p e = rw (e, printed)
+
+prints-question : (input : List ℕ) (t allowance n m : ℕ) → parsed input .outcome ≡ text.question t allowance n m
+    → hits input ≡ textFor (take m (parsed input .numbers)) (take n (parsed input .ends)) t allowance
+unfolding hits printed
+prints-question input t allowance n m e = rw (e, printed)
+
+pub refusal-text : (input a b a′ b′ : List ℕ) (line : ℕ) → length a ≡ 1024 → length b ≡ 64
+    → Returns (text.parse input a b) (text.refused 12 line) a′ b′ → refuseLine 12 line ≡ hits input
+refusal-text input a b a′ b′ line e f r = sym (prints-refusal input 12 line (sym (parse-text input a b e f .outcome) ∙ sym (r .outcome-is)))
+
+pub question-text : (input a b a′ b′ : List ℕ) (t allowance n m : ℕ) → length a ≡ 1024 → length b ≡ 64
+    → Returns (text.parse input a b) (text.question t allowance n m) a′ b′
+    → textFor (take (m - 0) (drop 0 a′)) (take (n - 0) (drop 0 b′)) t allowance ≡ hits input
+question-text input a b a′ b′ t allowance n m e f r =
+    let s = parse-text input a b e f in
+    let o : text.parse input a b .outcome ≡ text.question t allowance n m = sym (r .outcome-is) in
+    let i : m - 0 ≡ m = omega arith in
+    let j : n - 0 ≡ n = omega arith in
+    let x : take (m - 0) a′ ≡ take m (parsed input .numbers) = ap₂ take i (r .numbers-are) ∙ s .numbers t allowance n m o in
+    let y : take (n - 0) b′ ≡ take n (parsed input .ends) = ap₂ take j (r .ends-are) ∙ s .ends t allowance n m o in
+    (λ d. textFor (x d) (y d) t allowance) ∙ sym (prints-question input t allowance n m (sym (s .outcome) ∙ o))
+
+pub question-fits : (input a b a′ b′ : List ℕ) (t allowance n m : ℕ) → Returns (text.parse input a b) (text.question t allowance n m) a′ b′
+    → (m ≤ length a′) × (n ≤ length b′)
+question-fits input a b a′ b′ t allowance n m r =
+    let q = parse-fits input a b t allowance n m (sym (r .outcome-is)) in
+    let x = ap length (r .numbers-are) in
+    let y = ap length (r .ends-are) in
+    (omega (arith, q .0), omega (arith, q .1))
+
+-- the whole of a row, as a part of it
+pub part-whole : (k : ℕ) (r : List ℕ) → k ≡ length r → length (take (k - 0) (drop 0 r)) ≡ k
+part-whole k r e = let i : k - 0 ≡ k = omega arith in ap (λ x. length (take x r)) i ∙ length-take-le k r (omega arith)

@@ -1,0 +1,33 @@
+-- Document 01, 'The program hits': what it prints for an input. Definitions only.
+use Prim.Native.Nat.{ℕ}
+use mathlib.Core.List.{List}
+use lib.ListN.{take, replicate}
+use Rattle.model.specs.Refusals as model
+use Rattle.parse.specs.Text as text
+use Rattle.render.specs.Text.{rendered, refuseLine}
+
+-- the text of what a question comes to
+unfoldable pub shown : model.Answered → List ℕ
+shown a = rendered (a .outcome) (a .certificate)
+
+-- The program's buffers hold 1,024 answers and 65,536 certificate bytes. (What stands in a buffer before is of no account; here it is zeros.)
+unfoldable pub textFor : List ℕ → List ℕ → ℕ → ℕ → List ℕ
+textFor numbers ends t allowance = shown (model.query numbers ends t allowance (replicate 1024 0) (replicate 65536 0))
+
+-- The input is refused, or is a question of at most 1,024 numbers in at most 64 runs.
+unfoldable pub parsed : List ℕ → text.Result
+parsed input = text.parse input (replicate 1024 0) (replicate 64 0)
+
+unfoldable pub printed : text.Result → List ℕ
+printed p =
+    elim (p .outcome) [
+      | text.refused number place ↦ refuseLine number place
+      | text.question t allowance runs count ↦ textFor (take count (p .numbers)) (take runs (p .ends)) t allowance
+    ]
+
+unfoldable pub hits : List ℕ → List ℕ
+hits input = printed (parsed input)
+
+-- Room for every text that is printed: 4 bytes for each certificate byte, and 64.
+unfoldable pub mostText : ℕ
+mostText = 262208
