@@ -23,8 +23,8 @@ use Rattle.order.proofs.Row.{sum-one}
 use Rattle.model.proofs.Heads.{Ordered}
 use Rattle.order.specs.Row.{sumOf}
 use Rattle.walk.specs.Moves.{Placeable, stepNamed}
-use Rattle.walk.specs.State.{runsAt, weigh, putHead, InOrder, Inside, notNamed, Holds, Lacks}
-use Rattle.walk.proofs.Moving.{noRun, runs-at-length, runs-at-labels, run-at, runs-at-set, label-at, member-at, pending, pending-named, pending-moved, not-named-zero, not-named-is, Cleared, run-named, state-step, sum-step, put-sum, put-ordered}
+use Rattle.walk.specs.State.{noRun, runsAt, weigh, putHead, InOrder, Inside, notNamed, Holds, Lacks}
+use Rattle.walk.proofs.Moving.{runs-at-length, runs-at-labels, run-at, runs-at-set, label-at, member-at, pending, pending-named, pending-moved, not-named-zero, not-named-is, Cleared, run-named, state-step, sum-step, put-sum, put-ordered}
 
 pub record Placed (numbers ends : List ℕ) (rs : List Run) (m : Run → Run) (rest : ℕ) (positions : List ℕ) : Type 0 where
   pub inside : Inside numbers positions ends

@@ -1,7 +1,9 @@
 pub mod Beginning
 pub mod Going
 pub mod Moving
+pub mod Placing
 pub mod Putting
+pub mod Ranking
 pub mod Runs
 pub mod Searches
 pub mod Steps

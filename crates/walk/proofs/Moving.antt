@@ -16,11 +16,7 @@ use Rattle.model.proofs.Tests.{both, lt-or-le, eq-or-ne, true-false}
 use Rattle.order.proofs.Row.{sum-insert, ordered-insert}
 use Rattle.model.proofs.Heads.{Ordered}
 use Rattle.order.specs.Row.{insertKey, sumOf}
-use Rattle.walk.specs.State.{runsAt, keyOf, weigh, putHead, InOrder, Inside, notNamed, Holds, Lacks}
-
--- the run where there is none
-abbrev pub noRun : Run
-noRun = record { label = 0; bins = [] }
+use Rattle.walk.specs.State.{noRun, runsAt, keyOf, weigh, putHead, InOrder, Inside, notNamed, Holds, Lacks}
 
 -- ---- runs at positions
 

@@ -1,2 +1,3 @@
 pub mod Moves
+pub mod Ranks
 pub mod State

@@ -18,6 +18,10 @@ runsAt i numbers (p ∷ positions) [] = []
 runsAt i numbers (p ∷ positions) (e ∷ ends) =
     record { label = i; bins = slice numbers p e } ∷ runsAt (suc i) numbers positions ends
 
+-- the run where there is none
+abbrev pub noRun : Run
+noRun = record { label = 0; bins = [] }
+
 -- a run's key, and what a sum over keys adds for it: nothing where the run has no head
 unfoldable pub keyOf : Run → ℕ
 keyOf r = head r * 256 + r .label
