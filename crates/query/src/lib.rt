@@ -159,7 +159,15 @@ fn pass(
     if w.floor == 4294967295 {
         return Turn::Done(w);
     }
-    let start = walk::step_runs(numbers, ends, positions, keys, w.start + number, named);
+    let start = walk::step_runs(
+        numbers,
+        ends,
+        positions,
+        keys,
+        w.start + number,
+        named,
+        number,
+    );
     Turn::On(State {
         floor: w.floor + 1,
         start: start,
@@ -234,6 +242,7 @@ fn advance(
         named,
         v,
         x.left,
+        front.count,
     ) else {
         return Turn::Stopped(
             7,

@@ -1,6 +1,6 @@
 -- One turn of each loop, with the probes made before it, and the two parts of a search put together. Assumes nothing.
 use Prim.Native.Nat.{ℕ, zero, suc, _+_, _-_, _*_, _/_, _≤_, _<_, min}
-use borrow.Author.Tests.{le-leb, lt-leb, lt-ltb, le-ltb}
+use borrow.Author.Tests.{le-leb, lt-leb}
 use lib.Dec.{leb}
 use lib.ListN.{length, getD}
 use mathlib.Core.Bool.{true, false}
@@ -12,7 +12,7 @@ use native.Mathlib.Omega.{arith}
 use Rattle.model.specs.Walk.{Bracket, doubling, Halving, halving, Search, seek}
 use Rattle.model.proofs.Searching.{double-end, double-stop, double-on, double-fuel, double-inside, double-order, halve-end, halve-up, halve-down, halve-fuel}
 use Rattle.model.proofs.Tests.{lt-or-le}
-use Rattle.search.specs.Limited.{ifBelow, bracketWithin, placeWithin, soughtWithin}
+use Rattle.search.specs.Limited.{bracketWithin, placeWithin, soughtWithin}
 use Rattle.search.specs.declared.Bracketed.{Bracketed}
 use Rattle.search.specs.declared.Bracketed.the-variants.{Between, NoneLeft}
 use Rattle.search.specs.declared.Placed.{Placed}
@@ -250,12 +250,3 @@ module _ (left v : ℕ) (s : List ℕ) where
       let k : halvings ≡ halves .probes = cc in
       rw (le-leb (doubles .probes + halves .probes) left i, soughtWithin) (λ x. Found (j x) (p x) (k x)))
       (lt-or-le (left - probes) (halves .probes))
-
--- a number where x is below v, otherwise 0
-pub where-below : (x v n : ℕ) → x < v → ifBelow x v n ≡ n
-unfolding ifBelow
-where-below x v n h = rw (lt-ltb x v h, ifBelow)
-
-pub where-not : (x v n : ℕ) → v ≤ x → ifBelow x v n ≡ 0
-unfolding ifBelow
-where-not x v n h = rw (le-ltb x v h, ifBelow)

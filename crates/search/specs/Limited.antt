@@ -1,7 +1,7 @@
 -- A search with so many probes left: the defined one where they are enough, and otherwise as many probes of it as are left.
 use Prim.Native.Nat.{ℕ, _+_, _-_, min}
 use mathlib.Core.Bool.{true, false}
-use lib.Dec.{leb, ltb}
+use lib.Dec.{leb}
 use Rattle.model.specs.Walk.{Bracket, Halving, Search}
 use Rattle.search.specs.declared.Bracketed.{Bracketed}
 use Rattle.search.specs.declared.Bracketed.the-variants.{Between, NoneLeft}
@@ -23,7 +23,3 @@ soughtWithin left f =
       | true ↦ Found (f .place) (f .doublings) (f .halvings)
       | false ↦ Spent (min (f .doublings) left) (left - f .doublings)
     ]
-
--- a number where x is below v, otherwise 0
-unfoldable pub ifBelow : ℕ → ℕ → ℕ → ℕ
-ifBelow x v n = elim (ltb x v) [ true ↦ n | false ↦ 0 ]

@@ -3,7 +3,7 @@ ghost use mathlib.Core.Path.{_≡_};
 ghost use Prim.Native.Nat.{_≤_};
 ghost use lib.ListN.{length};
 ghost use Rattle.model.specs.Walk.{doubling, halving, seek};
-ghost use Rattle.search.specs.Limited.{bracketWithin, ifBelow, placeWithin, soughtWithin};
+ghost use Rattle.search.specs.Limited.{bracketWithin, placeWithin, soughtWithin};
 
 // Where the doubling ended, with its probes; or that no probe was left for it.
 pub enum Bracketed {
@@ -61,20 +61,7 @@ fn doubled(s: &[u32], v: u32, left: u32) -> Bracketed
     }
 }
 
-fn wide(x: u32) -> usize
-    ensures { λ r. ⌜ r ≡ x ⌝ }
-{
-    x as usize
-}
-
-// `n` where x is below v, otherwise 0. By arithmetic, since a compiler may make a branch of a comparison.
-fn if_below(x: u32, v: u32, n: usize) -> usize
-    ensures { λ r. ⌜ r ≡ ifBelow x v n ⌝ }
-{
-    n * ((wide(v) + 4294967295 - wide(x)) / 4294967296)
-}
-
-// Halving between a place below v and one that is not. Which half goes on cannot be foretold, so no branch depends on it.
+// Halving between a place below v and one that is not.
 fn halved(s: &[u32], v: u32, from: usize, to: usize, left: u32) -> Placed
     requires { ⌜ (from ≤ to) × (to ≤ length (now s)) ⌝ }
     ensures { λ r. ⌜ r ≡ placeWithin left (halving (length (now (s .entry))) v (now (s .entry)) from to) ⌝ }
@@ -86,12 +73,14 @@ fn halved(s: &[u32], v: u32, from: usize, to: usize, left: u32) -> Placed
         if probes == left {
             return Placed::NoneLeft;
         }
-        let half = (hi - lo) / 2;
-        let m = lo + half;
+        let m = lo + (hi - lo) / 2;
         let x = s[m];
         probes += 1;
-        lo = lo + if_below(x, v, half);
-        hi = m + if_below(x, v, hi - m);
+        if x < v {
+            lo = m;
+        } else {
+            hi = m;
+        }
     }
     Placed::At {
         place: hi,
