@@ -1,59 +1,38 @@
 //! Two other ways to the answers. Neither checks its input, writes a
 //! certificate or counts probes.
 
-const MAX_RUNS: usize = 64;
+use std::cmp::Reverse;
+use std::collections::binary_heap::{BinaryHeap, PeekMut};
 
-/// The key of a run that has no head; above every other.
-const NONE: u64 = u64::MAX;
-
-fn key(head: u32, run: usize) -> u64 {
-    u64::from(head) << 32 | run as u64
-}
-
-fn head(key: u64) -> u32 {
-    (key >> 32) as u32
-}
-
-/// Writes the numbers that at least `threshold` of at most 64 runs hold, by a
-/// merge with a binary heap of the heads. Returns how many there are.
+/// Writes the numbers that at least `threshold` runs hold, by a merge with the
+/// standard library's heap of the heads that goes through every number.
+/// Returns how many there are.
 pub fn heap_merge(numbers: &[u32], ends: &[u32], threshold: usize, answers: &mut [u32]) -> usize {
-    let mut position = [0; MAX_RUNS];
-    let mut end = [0; MAX_RUNS];
-    let mut heap = Heap {
-        keys: [NONE; MAX_RUNS + 1],
-        len: ends.len(),
-    };
-    let mut start = 0;
-    let mut with_head = 0;
-    for (i, &e) in ends.iter().enumerate() {
-        position[i] = start;
-        end[i] = e as usize;
-        if start < e as usize {
-            heap.keys[i] = key(numbers[start], i);
-            with_head += 1;
-        }
-        start = e as usize;
-    }
-    heap.keys[..ends.len()].sort_unstable();
-
+    let mut starts = ends.iter().scan(0, |start, &end| {
+        let run = *start..end as usize;
+        *start = end as usize;
+        Some(run)
+    });
+    let runs: Vec<&[u32]> = starts.by_ref().map(|run| &numbers[run]).collect();
+    // A head, its run and its place in the run.
+    let heads = runs.iter().enumerate();
+    let mut heap: BinaryHeap<Reverse<(u32, u32, u32)>> = heads
+        .filter_map(|(i, run)| Some(Reverse((*run.first()?, i as u32, 0))))
+        .collect();
     let mut written = 0;
-    // With fewer heads there are no more answers.
-    while with_head >= threshold {
-        let v = head(heap.keys[0]);
+    while let Some(&Reverse((v, _, _))) = heap.peek() {
         let mut holding = 0;
-        loop {
-            holding += 1;
-            let i = heap.keys[0] as usize % MAX_RUNS;
-            position[i] += 1;
-            let place = position[i];
-            if place < end[i] {
-                heap.replace_least(key(numbers[place], i));
-            } else {
-                heap.replace_least(NONE);
-                with_head -= 1;
-            }
-            if head(heap.keys[0]) != v || with_head == 0 {
+        while let Some(mut head) = heap.peek_mut() {
+            let Reverse((x, i, place)) = *head;
+            if x != v {
                 break;
+            }
+            holding += 1;
+            match runs[i as usize].get(place as usize + 1) {
+                Some(&next) => *head = Reverse((next, i, place + 1)),
+                None => {
+                    PeekMut::pop(head);
+                }
             }
         }
         if holding >= threshold {
@@ -62,37 +41,6 @@ pub fn heap_merge(numbers: &[u32], ends: &[u32], threshold: usize, answers: &mut
         }
     }
     written
-}
-
-/// A binary heap with the least key first; a rising row is one. `NONE` stands
-/// after the last key, so that every place with a first child has a second.
-struct Heap {
-    keys: [u64; MAX_RUNS + 1],
-    len: usize,
-}
-
-impl Heap {
-    /// Puts another key in the place of the least.
-    fn replace_least(&mut self, mut key: u64) {
-        // Where one run goes on for long, its next head is again the least.
-        if key <= self.keys[1].min(self.keys[2]) {
-            self.keys[0] = key;
-            return;
-        }
-        // At each level the lesser of the key and the least child stays and
-        // the other goes on down; no branch depends on a key.
-        let mut i = 0;
-        while 2 * i + 1 < self.len.min(MAX_RUNS) {
-            let first = 2 * i + 1;
-            let second_is_less = self.keys[first + 1] < self.keys[first];
-            let child = first + usize::from(second_is_less);
-            let least = self.keys[child];
-            self.keys[i] = key.min(least);
-            key = key.max(least);
-            i = child;
-        }
-        self.keys[i] = key;
-    }
 }
 
 /// The same by sorting a copy of all numbers in `scratch` and counting equal

@@ -11,6 +11,7 @@
 mod baselines;
 mod checking;
 mod inputs;
+mod ordered;
 
 use inputs::{Input, NUMBERS};
 use quorum::Outcome;
@@ -87,8 +88,8 @@ fn main() -> ExitCode {
         options.repetitions
     );
     println!(
-        "{:<16} {:>3} {:>3} {:>9} {:>10} {:>13} {:>9} {:>9}",
-        "case", "k", "t", "parts", "ns/number", "lib/reference", "lib/heap", "lib/sort"
+        "{:<16} {:>3} {:>3} {:>9} {:>10} {:>13} {:>9} {:>9} {:>9}",
+        "case", "k", "t", "parts", "ns/number", "lib/reference", "lib/same", "lib/heap", "lib/sort"
     );
     for Case { name, runs, input } in CASES {
         for &k in runs {
@@ -105,10 +106,11 @@ fn main() -> ExitCode {
                 let library = times.library.as_secs_f64();
                 let ratio = |other: Duration| library / other.as_secs_f64();
                 println!(
-                    "{name:<16} {k:>3} {t:>3} {:>9} {:>10.2} {:>13.2} {:>9.2} {:>9.2}",
+                    "{name:<16} {k:>3} {t:>3} {:>9} {:>10.2} {:>13.2} {:>9.2} {:>9.2} {:>9.2}",
                     times.parts,
                     library * 1e9 / NUMBERS as f64,
                     ratio(times.reference),
+                    ratio(times.same),
                     ratio(times.heap),
                     ratio(times.sort)
                 );
@@ -128,14 +130,15 @@ struct Times {
     parts: usize,
     library: Duration,
     reference: Duration,
+    same: Duration,
     heap: Duration,
     sort: Duration,
 }
 
-/// What the four ways write to: large enough for every case.
+/// What the five ways write to: large enough for every case.
 struct Buffers {
-    answers: [Vec<u32>; 4],
-    certificates: [Vec<u8>; 2],
+    answers: [Vec<u32>; 5],
+    certificates: [Vec<u8>; 3],
     scratch: Vec<u32>,
 }
 
@@ -153,13 +156,14 @@ impl Buffers {
         }
     }
 
-    /// Runs all four in turn, `repetitions` times, and checks that they agree.
+    /// Runs all five in turn, `repetitions` times, and checks that they agree.
     fn measure(&mut self, input: &Input, threshold: usize, repetitions: usize) -> Times {
         let Input { numbers, ends } = input;
         let t = threshold as u32;
-        let [library_answers, reference_answers, heap_answers, sort_answers] = &mut self.answers;
-        let [library_bytes, reference_bytes] = &mut self.certificates;
-        let mut times: [Vec<Duration>; 4] = Default::default();
+        let [library_answers, reference_answers, same_answers, heap_answers, sort_answers] =
+            &mut self.answers;
+        let [library_bytes, reference_bytes, same_bytes] = &mut self.certificates;
+        let mut times: [Vec<Duration>; 5] = Default::default();
         let mut counts = None;
         for _ in 0..repetitions {
             let (time, outcome) =
@@ -188,30 +192,44 @@ impl Buffers {
             assert_eq!(outcome, expected);
             times[1].push(time);
 
+            let (time, same) =
+                timed(|| ordered::query(numbers, ends, threshold, same_answers, same_bytes));
+            let expected = ordered::Counts {
+                answers: library.answers,
+                parts: library.parts,
+                bytes: library.bytes,
+                probes: library.probes as u32,
+            };
+            assert_eq!(same, Some(expected));
+            times[2].push(time);
+
             let (time, written) =
                 timed(|| baselines::heap_merge(numbers, ends, threshold, heap_answers));
             assert_eq!(written, library.answers);
-            times[2].push(time);
+            times[3].push(time);
 
             let scratch = &mut self.scratch;
             let (time, written) =
                 timed(|| baselines::sort_and_count(numbers, threshold, scratch, sort_answers));
             assert_eq!(written, library.answers);
-            times[3].push(time);
+            times[4].push(time);
 
             counts = Some(library);
         }
         let counts = counts.expect("at least one repetition");
         let answers = &library_answers[..counts.answers];
         assert!(answers == &reference_answers[..counts.answers]);
+        assert!(answers == &same_answers[..counts.answers]);
         assert!(answers == &heap_answers[..counts.answers]);
         assert!(answers == &sort_answers[..counts.answers]);
         assert!(library_bytes[..counts.bytes] == reference_bytes[..counts.bytes]);
-        let [library, reference, heap, sort] = times.map(median);
+        assert!(library_bytes[..counts.bytes] == same_bytes[..counts.bytes]);
+        let [library, reference, same, heap, sort] = times.map(median);
         Times {
             parts: counts.parts,
             library,
             reference,
+            same,
             heap,
             sort,
         }
