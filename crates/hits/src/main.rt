@@ -12,9 +12,10 @@ fn room_for_text() -> [u8; 262208]
     [0; 262208]
 }
 
-// Writes the text for an input, and returns how long it is. With enough room the first bytes of the buffer, as many as are returned, are the text.
+// Writes the text for an input, and returns how long it is: the first bytes of the buffer, as many as are returned, are the text.
 fn write_text(input: &[u8], text: &mut [u8]) -> usize
-    ensures { λ r. ⌜ (r ≤ length (now (text .exit))) × (mostText ≤ length (now (text .entry)) → take r (now (text .exit)) ≡ hits (now (input .entry))) ⌝ }
+    requires { ⌜ mostText ≤ length (now text) ⌝ }
+    ensures { λ r. ⌜ (r ≤ length (now (text .exit))) × (take r (now (text .exit)) ≡ hits (now (input .entry))) ⌝ }
 {
     if let Rendered::Text(size) = hits_text::text_for(input, text) {
         return size;
@@ -22,7 +23,9 @@ fn write_text(input: &[u8], text: &mut [u8]) -> usize
     0
 }
 
-fn print_text(input: &[u8], text: &mut [u8]) {
+fn print_text(input: &[u8], text: &mut [u8])
+    requires { ⌜ mostText ≤ length (now text) ⌝ }
+{
     let size = write_text(input, text);
     io::write_all(1, &text[0..size]);
 }

@@ -15,7 +15,7 @@ use Rattle.parse.specs.Steps.{Returns}
 use Rattle.parse.specs.Text as text
 use Rattle.render.proofs.Printed.{accepted-prints}
 use Rattle.render.specs.Text.{rendered, refuseLine}
-use Rattle.hits_text.specs.Hits.{shown, textFor, parsed, printed, hits}
+use Rattle.hits_text.specs.Hits.{shown, asked, textFor, parsed, printed, hits}
 
 -- ---- the question
 
@@ -38,7 +38,7 @@ rendered-same numbers ends t allowance a b c d f (refused x p y z q) e g = refl
 
 pub ask-text : (numbers ends : List ℕ) (t allowance : ℕ) (a b : List ℕ) → Fits pastBin numbers → length a ≡ 1024 → length b ≡ 65536
     → shown (query numbers ends t allowance a b) ≡ textFor numbers ends t allowance
-unfolding textFor shown
+unfolding textFor asked shown
 ask-text numbers ends t allowance a b f e g =
     let c : List ℕ = replicate 1024 0 in
     let d : List ℕ = replicate 65536 0 in
@@ -54,16 +54,16 @@ pub record Same (p q : text.Result) : Type 0 where
   pub numbers : (t allowance n m : ℕ) → p .outcome ≡ text.question t allowance n m → take m (p .numbers) ≡ take m (q .numbers)
   pub ends : (t allowance n m : ℕ) → p .outcome ≡ text.question t allowance n m → take n (p .ends) ≡ take n (q .ends)
 
-take-over : (n : ℕ) (written buffer : List ℕ) → n ≡ length written → take n (over written buffer) ≡ written
+pub take-over : (n : ℕ) (written buffer : List ℕ) → n ≡ length written → take n (over written buffer) ≡ written
 unfolding over
 take-over n written buffer e = ap (λ x. take x (written ++ drop (length written) buffer)) e ∙ take-append-seam written (drop (length written) buffer)
 
-ends-length : (start : ℕ) (rs : List (List ℕ)) → length (text.endsFrom start rs) ≡ length rs
+pub ends-length : (start : ℕ) (rs : List (List ℕ)) → length (text.endsFrom start rs) ≡ length rs
 unfolding text.endsFrom
 ends-length start [] = refl
 ends-length start (r ∷ rs) = ap suc (ends-length (start + length r) rs)
 
-refused-not : {A : Type 0} {p q t x n m : ℕ} → text.refused p q ≡ text.question t x n m → A
+pub refused-not : {A : Type 0} {p q t x n m : ℕ} → text.refused p q ≡ text.question t x n m → A
 refused-not e = let z : _≡_ {A = ℕ} 0 1 = cc in absurd (omega arith)
 
 result-same : (h : text.Heading) (l : text.Lines) (a b c d : List ℕ) → Same (text.resultOf h l a b) (text.resultOf h l c d)
@@ -132,11 +132,11 @@ parse-fits input a b t x n m e = lines-fits (ltb text.mostBytes (length input)) 
 
 -- ---- what is printed
 
-prints-refusal : (input : List ℕ) (n p : ℕ) → parsed input .outcome ≡ text.refused n p → hits input ≡ refuseLine n p
+pub prints-refusal : (input : List ℕ) (n p : ℕ) → parsed input .outcome ≡ text.refused n p → hits input ≡ refuseLine n p
 unfolding hits printed
 prints-refusal input n p e = rw (e, printed)
 
-prints-question : (input : List ℕ) (t allowance n m : ℕ) → parsed input .outcome ≡ text.question t allowance n m
+pub prints-question : (input : List ℕ) (t allowance n m : ℕ) → parsed input .outcome ≡ text.question t allowance n m
     → hits input ≡ textFor (take m (parsed input .numbers)) (take n (parsed input .ends)) t allowance
 unfolding hits printed
 prints-question input t allowance n m e = rw (e, printed)

@@ -1,6 +1,8 @@
 -- Document 01, 'The program hits': what it prints for an input. Definitions only.
 use Prim.Native.Nat.{ℕ}
 use mathlib.Core.List.{List}
+use mathlib.Core.Logic.{_⊎_}
+use mathlib.Core.Path.{_≡_}
 use lib.ListN.{take, replicate}
 use Rattle.model.specs.Refusals as model
 use Rattle.parse.specs.Text as text
@@ -11,8 +13,11 @@ unfoldable pub shown : model.Answered → List ℕ
 shown a = rendered (a .outcome) (a .certificate)
 
 -- The program's buffers hold 1,024 answers and 65,536 certificate bytes. (What stands in a buffer before is of no account; here it is zeros.)
+unfoldable pub asked : List ℕ → List ℕ → ℕ → ℕ → model.Answered
+asked numbers ends t allowance = model.query numbers ends t allowance (replicate 1024 0) (replicate 65536 0)
+
 unfoldable pub textFor : List ℕ → List ℕ → ℕ → ℕ → List ℕ
-textFor numbers ends t allowance = shown (model.query numbers ends t allowance (replicate 1024 0) (replicate 65536 0))
+textFor numbers ends t allowance = shown (asked numbers ends t allowance)
 
 -- The input is refused, or is a question of at most 1,024 numbers in at most 64 runs.
 unfoldable pub parsed : List ℕ → text.Result
@@ -27,6 +32,14 @@ printed p =
 
 unfoldable pub hits : List ℕ → List ℕ
 hits input = printed (parsed input)
+
+-- The program prints the answer to a question, or a refusal: 12 of the input, or 1, 2, 4 or 7 of its question.
+unfoldable pub Printable : ℕ → Type 0
+Printable n = (n ≡ 1) ⊎ ((n ≡ 2) ⊎ ((n ≡ 4) ⊎ ((n ≡ 7) ⊎ (n ≡ 12))))
+
+pub data Prints (printed : List ℕ) : Type 0 where
+  an-answer : (answers parts bytes probes : ℕ) (certificate : List ℕ) → printed ≡ rendered (model.accepted answers parts bytes probes) certificate → Prints printed
+  a-refusal : (number place : ℕ) → Printable number → printed ≡ refuseLine number place → Prints printed
 
 -- Room for every text that is printed: 4 bytes for each certificate byte, and 64.
 unfoldable pub mostText : ℕ

@@ -28,7 +28,7 @@ returns c =
     let a = s .args in
     let k : length (u .text-for .last .1 .0) ≡ length (a .text .now) = u .text-for .kept .1 .0 in
     let t = shown-text (subst (λ r. Shows (hits (a .input .now)) (a .text .now) (u .text-for .last .1 .0) r) (f .size .given .1) (u .text-for .ensures .0)) in
-    (omega (arith, t .0), λ h. t .1)
+    (omega (arith, t .0), t .1)
 
 enum-told : tie.Need-enum-told
 enum-told c = search needs
@@ -39,7 +39,8 @@ same-length-2 c = search needs
 returns-2 : tie.Need-returns-2
 returns-2 c =
     let u = c .before .before .before .before in
-    (omega arith, λ h. (let e : Full ≡ Text _ = sym (c .enum-told .given .1) ∙ u .text-for .ensures .1 h in absurd (let z : _≡_ {A = ℕ} 0 1 = cc in omega arith)))
+    let e : Full ≡ Text _ = sym (c .enum-told .given .1) ∙ u .text-for .ensures .1 (omega arith) in
+    absurd (let z : _≡_ {A = ℕ} 0 1 = cc in omega arith)
 
 pub write-text-spec : {M : Type 1} → statement M
 write-text-spec =
