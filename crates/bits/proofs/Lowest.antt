@@ -1,13 +1,14 @@
 -- The lowest run of a mask is the number of its trailing zeros. A mask that names run i is at least 2 ^ i; less 2 ^ i it names the same runs but i.
 -- Stated over the width. Assumes nothing.
-use Prim.Native.Nat.{ℕ, zero, suc, _+_, _-_, _*_, _/_, _%_, _^_, _≤_, _<_}
+use Prim.Native.Nat.{ℕ, zero, suc, _+_, _-_, _*_, _/_, _%_, _^_, _≤_, _<_, min}
+use lib.Bits.{bitAnd, and-step, and-self}
 use lib.Count.{trailingZeros}
 use lib.Pow.{pow-pos, shr-shr, split, high}
 use mathlib.Core.Logic.{_≢_, ⊎-elim}
 use mathlib.Core.Path.{_≡_, sym, ap, _∙_}
 use native.Mathlib.Nat.{div-one, mod-lt, suc-mul}
 use native.Mathlib.Omega.{arith}
-use Rattle.bits.specs.Bits.{Lowest}
+use Rattle.bits.specs.Bits.{Lowest, LowestGone}
 use Rattle.bits.proofs.Bits.{bit-above, bit-kept, with-new}
 use Rattle.model.proofs.Masks.{bit-of}
 use Rattle.model.proofs.Tests.{lt-or-le, eq-or-ne}
@@ -87,3 +88,48 @@ cleared-here m r i e f =
 pub cleared-other : (m r i j : ℕ) → bit m i ≡ 1 → r + 2 ^ i ≡ m → j ≢ i → bit r j ≡ bit m j
 cleared-other m r i j e f n =
     sym (bit-kept r j i n) ∙ ap (λ (x : ℕ). bit x j) (with-new r i (cleared-here m r i e f) ∙ f)
+
+-- ---- a mask without its lowest run
+
+-- a number and the one before it have the same digits above the lowest one, and none in common from there on
+and-lowest : (k m : ℕ) → 0 < m → m < 2 ^ k → bitAnd m (m - 1) + 2 ^ trailingZeros k m ≡ m
+and-lowest zero m p h = absurd (omega arith)
+and-lowest (suc k) m p h =
+    ⊎-elim
+    (λ (e : m % 2 ≡ 1).
+    let a : (m - 1) / 2 ≡ m / 2 = omega arith in
+    let b : (m - 1) % 2 ≡ 0 = omega arith in
+    let s : bitAnd m (m - 1) ≡ m / 2 * 2 =
+    and-step m (m - 1) ∙ ((λ i. bitAnd (m / 2) (a i) * 2 + min (e i) (b i)) ∙ (let w = and-self (m / 2) in omega arith)) in
+    rw (zeros-odd k m e) (omega arith))
+    (λ (n : m % 2 ≢ 1).
+    let e : m % 2 ≡ 0 = omega arith in
+    let d : 2 ^ suc k ≡ 2 * 2 ^ k = omega arith in
+    let a : (m - 1) / 2 ≡ m / 2 - 1 = omega arith in
+    let b : (m - 1) % 2 ≡ 1 = omega arith in
+    let s : bitAnd m (m - 1) ≡ bitAnd (m / 2) (m / 2 - 1) * 2 =
+    and-step m (m - 1) ∙ ((λ i. bitAnd (m / 2) (a i) * 2 + min (e i) (b i)) ∙ omega arith) in
+    let q = and-lowest k (m / 2) (omega arith) (omega arith) in
+    let f : 2 ^ suc (trailingZeros k (m / 2)) ≡ 2 * 2 ^ trailingZeros k (m / 2) = omega arith in
+    rw (zeros-even k m e) (omega arith))
+    (eq-or-ne (m % 2) 1)
+
+-- a mask has one lowest run
+one-lowest : (m i j : ℕ) → Lowest m i → Lowest m j → i ≡ j
+one-lowest m i j a b =
+    ⊎-elim
+    (λ (h : i < j). absurd (let x = b .none-before i h in let y = a .here in omega arith))
+    (λ (h : j ≤ i).
+    ⊎-elim
+    (λ (e : j ≡ i). sym e)
+    (λ (n : j ≢ i). absurd (let x = a .none-before j (omega arith) in let y = b .here in omega arith))
+    (eq-or-ne j i))
+    (lt-or-le i j)
+
+pub lowest-gone : (m : ℕ) → 0 < m → m < 2 ^ 64 → LowestGone m (bitAnd m (m - 1))
+lowest-gone m p h =
+    record {
+      gone = λ i l.
+          (let e = one-lowest m i (trailingZeros 64 m) l (lowest-zeros m p h) in
+          ap (λ (x : ℕ). bitAnd m (m - 1) + 2 ^ x) e ∙ and-lowest 64 m p h);
+    }

@@ -4,7 +4,7 @@ ghost use Prim.Native.Nat.{_+_, _-_, _/_, _^_, _≤_, _<_};
 ghost use lib.Count.{ones};
 ghost use lib.Dec.{eqb};
 ghost use Rattle.model.specs.Runs.{bit};
-ghost use Rattle.bits.specs.Bits.{withRun, Lowest, Highest};
+ghost use Rattle.bits.specs.Bits.{withRun, Lowest, LowestGone, Highest};
 
 // The mask that names `run` too.
 pub fn with_run(mask: u64, run: u32) -> u64
@@ -46,6 +46,14 @@ pub fn lowest_run(mask: u64) -> u32
     ensures { λ r. ⌜ Lowest mask r ⌝ }
 {
     u64::trailing_zeros(mask)
+}
+
+// The mask that names its lowest run no more.
+pub fn without_lowest(mask: u64) -> u64
+    requires { ⌜ 0 < mask ⌝ }
+    ensures { λ r. ⌜ LowestGone mask r ⌝ }
+{
+    mask & (mask - 1)
 }
 
 // The highest run that the mask names.
