@@ -1,23 +1,24 @@
 -- The refusals that the program can print: 12 of an input that is not a question, and of a question 1, 2, 4 or 7. The ends that an input gives never
 -- fall and the last is the number of numbers, so 3 does not occur; and for 1,024 numbers the buffers are enough, so 5 and 6 do not. Assumes nothing.
-use Prim.Native.Nat.{ℕ, suc, _+_, _*_, _≤_, _<_}
-use borrow.Author.Tests.{leb-true, ltb-false, le-ltb, eq-eqb}
+use Prim.Native.Nat.{ℕ, zero, suc, _+_, _-_, _*_, _/_, _%_, _≤_, _<_}
+use borrow.Author.Tests.{leb-true, ltb-false, lt-ltb, le-ltb, eq-eqb, ne-eqb}
 use lib.Dec.{leb, ltb, eqb}
 use lib.ListN.{length, take, replicate, length-replicate, length-append}
 use mathlib.Core.Bool.{Bool, true, false, _&&_, _||_, not}
-use mathlib.Core.List.{List, [], _∷_, _++_, List·Memᴰ, List·Memᴰ·head, List·Memᴰ·tail, List·Memᴰ·not-nil, List·Memᴰ·cases-cons}
-use mathlib.Core.Logic.{_⊎_, inl, inr, ⊎-elim}
+use mathlib.Core.List.{List, [], _∷_, _++_, append-assoc, List·Memᴰ, List·Memᴰ·head, List·Memᴰ·tail, List·Memᴰ·not-nil, List·Memᴰ·cases-cons}
+use mathlib.Core.Logic.{_⊎_, inl, inr, ⊎-elim, _≢_}
 use mathlib.Core.Option.{Option, none, some}
-use mathlib.Core.Path.{_≡_, refl, sym, ap, ap₂, _∙_, subst}
+use mathlib.Core.Path.{_≡_, refl, sym, ap, _∙_, subst}
 use native.Mathlib.Omega.{arith}
+use Rattle.model.specs.Certificate.{Part, answer, gap}
 use Rattle.model.specs.Demands.{Fits}
-use Rattle.model.specs.Refusals.{Check, passed, refusal, _then_, refuseIf, refuseAt, fallsFrom, lastEnd, unrisenIn, firstChecks, Outcome, accepted, refused, query}
+use Rattle.model.specs.Refusals.{Check, passed, refusal, _then_, refuseIf, refuseAt, fallsFrom, lastEnd, firstChecks, Outcome, accepted, refused, query}
 use Rattle.model.specs.Runs.{lastBin, pastBin, runs}
 use Rattle.model.proofs.Enough.{room-enough}
-use Rattle.model.proofs.Tests.{and-true, or-false}
+use Rattle.model.proofs.Tests.{lt-or-le, and-true, or-false}
 use Rattle.parse.specs.Text as text
-use Rattle.render.specs.Text.{rendered, refuseLine}
-use Rattle.hits_text.specs.Hits.{shown, asked, textFor, parsed, printed, hits, Printable, Prints, an-answer, a-refusal}
+use Rattle.render.specs.Text.{decimalIn, decimal, numbersAfter, line, partLine, partLines, doneLine, refuseLine, partsHeld, rendered}
+use Rattle.hits_text.specs.Hits.{shown, asked, textFor, parsed, hits, Printable}
 use Rattle.hits_text.proofs.Printing.{take-over, ends-length, refused-not, prints-refusal, prints-question}
 
 -- ---- every number of an input is a bin
@@ -291,8 +292,12 @@ pub fault : (input : List ℕ) (n p : ℕ) → parsed input .outcome ≡ text.re
 unfolding parsed text.parse
 fault input n p e = lines-fault (ltb text.mostBytes (length input)) (text.split 10 (take text.mostBytes input)) (replicate 1024 0) (replicate 64 0) n p e
 
--- Whatever the input is, an answer is printed or a refusal by 1, 2, 4, 7 or 12: never 3, 5 or 6.
-pub prints : (input : List ℕ) → Prints (hits input)
+-- An answer is printed, or a refusal by 1, 2, 4, 7 or 12.
+data Prints (text : List ℕ) : Type 0 where
+  an-answer : (answers parts bytes probes : ℕ) (certificate : List ℕ) → text ≡ rendered (accepted answers parts bytes probes) certificate → Prints text
+  a-refusal : (number place : ℕ) → Printable number → text ≡ refuseLine number place → Prints text
+
+prints : (input : List ℕ) → Prints (hits input)
 unfolding Printable textFor shown rendered
 prints input = go (parsed input .outcome) refl
   where
@@ -311,3 +316,60 @@ prints input = go (parsed input .outcome) refl
     go : (o : text.Outcome) → parsed input .outcome ≡ o → Prints (hits input)
     go (text.refused n p) e = a-refusal n p (inr (inr (inr (inr (fault input n p e))))) (prints-refusal input n p e)
     go (text.question t allowance runs count) e = told t allowance runs count e _ refl
+
+-- ---- the line of a refusal tells its number
+
+-- the value of the digits before a space
+unfoldable valueOf : ℕ → List ℕ → ℕ
+valueOf v [] = v
+valueOf v (b ∷ s) = elim (eqb b 32) [ true ↦ v | false ↦ valueOf (v * 10 + (b - 48)) s ]
+
+value-digit : (v d : ℕ) (s : List ℕ) → valueOf v ((48 + d) ∷ s) ≡ valueOf (v * 10 + d) s
+unfolding valueOf
+value-digit v d s =
+    let n : 48 + d ≢ 32 = omega arith in
+    let e : v * 10 + (48 + d - 48) ≡ v * 10 + d = omega arith in
+    rw (ne-eqb (48 + d) 32 n, valueOf) (ap (λ x. valueOf x s) e)
+
+value-decimal : (fuel x : ℕ) (s : List ℕ) → x < fuel → valueOf 0 (decimalIn fuel x ++ s) ≡ valueOf x s
+unfolding decimalIn
+value-decimal zero x s h = absurd (omega arith)
+value-decimal (suc fuel) x s h =
+    ⊎-elim
+    (λ (l : x < 10).
+    let e : 0 * 10 + x ≡ x = omega arith in
+    rw (lt-ltb x 10 l, decimalIn) (value-digit 0 x s ∙ ap (λ y. valueOf y s) e))
+    (λ (l : 10 ≤ x).
+    let e : x / 10 * 10 + x % 10 ≡ x = omega arith in
+    rw (le-ltb x 10 l, decimalIn)
+    (ap (valueOf 0) (append-assoc (decimalIn fuel (x / 10)) ((48 + x % 10) ∷ []) s)
+    ∙ value-decimal fuel (x / 10) ((48 + x % 10) ∷ s) (omega arith)
+    ∙ value-digit (x / 10) (x % 10) s
+    ∙ ap (λ y. valueOf y s) e))
+    (lt-or-le x 10)
+
+value-word : (x : ℕ) (s : List ℕ) → valueOf 0 (decimal x ++ (32 ∷ s)) ≡ x
+unfolding decimal valueOf
+value-word x s = value-decimal (suc x) x (32 ∷ s) (omega arith)
+
+same-number : (n p m r : ℕ) → refuseLine n p ≡ refuseLine m r → n ≡ m
+unfolding refuseLine line numbersAfter
+same-number n p m r e =
+    let w : decimal n ++ (32 ∷ (decimal p ++ (10 ∷ []))) ≡ decimal m ++ (32 ∷ (decimal r ++ (10 ∷ []))) = cc in
+    sym (value-word n (decimal p ++ (10 ∷ []))) ∙ ap (valueOf 0) w ∙ value-word m (decimal r ++ (10 ∷ []))
+
+-- an answer begins with another word
+answer-not : {A : Type 0} (ps : List Part) (a n q m p : ℕ) → partLines ps ++ doneLine a n q ≡ refuseLine m p → A
+unfolding partLines partLine doneLine refuseLine line
+answer-not [] a n q m p e = let z : _≡_ {A = ℕ} 100 114 = cc in absurd (omega arith)
+answer-not (answer v w ∷ ps) a n q m p e = let z : _≡_ {A = ℕ} 104 114 = cc in absurd (omega arith)
+answer-not (gap f l w ∷ ps) a n q m p e = let z : _≡_ {A = ℕ} 103 114 = cc in absurd (omega arith)
+
+-- Whatever the input is: if the line of a refusal is printed for it, the number is 1, 2, 4, 7 or 12, never 3, 5 or 6.
+pub printed-refusals : (input : List ℕ) (n p : ℕ) → hits input ≡ refuseLine n p → Printable n
+unfolding rendered
+printed-refusals input n p e = go (prints input)
+  where
+    go : Prints (hits input) → Printable n
+    go (an-answer a m b q certificate k) = answer-not (partsHeld (take b certificate)) a m q n p (sym k ∙ e)
+    go (a-refusal m r h k) = subst Printable (same-number m r n p (sym k ∙ e)) h

@@ -33,13 +33,9 @@ printed p =
 unfoldable pub hits : List ℕ → List ℕ
 hits input = printed (parsed input)
 
--- The program prints the answer to a question, or a refusal: 12 of the input, or 1, 2, 4 or 7 of its question.
+-- The numbers of the refusals that can be printed: 12 of the input, and 1, 2, 4 and 7 of its question.
 unfoldable pub Printable : ℕ → Type 0
 Printable n = (n ≡ 1) ⊎ ((n ≡ 2) ⊎ ((n ≡ 4) ⊎ ((n ≡ 7) ⊎ (n ≡ 12))))
-
-pub data Prints (printed : List ℕ) : Type 0 where
-  an-answer : (answers parts bytes probes : ℕ) (certificate : List ℕ) → printed ≡ rendered (model.accepted answers parts bytes probes) certificate → Prints printed
-  a-refusal : (number place : ℕ) → Printable number → printed ≡ refuseLine number place → Prints printed
 
 -- Room for every text that is printed: 4 bytes for each certificate byte, and 64.
 unfoldable pub mostText : ℕ
