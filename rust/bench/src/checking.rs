@@ -55,15 +55,16 @@ fn measure(
     let mut times: [Vec<Duration>; 2] = Default::default();
     let mut parts = 0;
     for _ in 0..repetitions {
-        let (time, outcome) =
-            timed(|| quorum::query(numbers, ends, threshold, u32::MAX, answers, certificate));
+        let (time, outcome) = timed(numbers, || {
+            quorum::query(numbers, ends, threshold, u32::MAX, answers, certificate)
+        });
         let Outcome::Accepted(counts) = outcome else {
             panic!("{outcome:?}");
         };
         times[0].push(time);
 
         let written = &certificate[..counts.bytes];
-        let (time, verdict) = timed(|| quorum::check(numbers, ends, threshold, written));
+        let (time, verdict) = timed(numbers, || quorum::check(numbers, ends, threshold, written));
         let quorum::Verdict::Valid { answers, parts: n } = verdict else {
             panic!("{verdict:?}");
         };

@@ -120,7 +120,7 @@ fn main() -> ExitCode {
     checking::report(&options.only, options.repetitions);
     println!(
         "All buffers were allocated and written once before timing and not cleared between \
-         repetitions."
+         repetitions; the numbers were read once before each timing."
     );
     ExitCode::SUCCESS
 }
@@ -166,14 +166,15 @@ impl Buffers {
         let mut times: [Vec<Duration>; 5] = Default::default();
         let mut counts = None;
         for _ in 0..repetitions {
-            let (time, outcome) =
-                timed(|| quorum::query(numbers, ends, t, u32::MAX, library_answers, library_bytes));
+            let (time, outcome) = timed(numbers, || {
+                quorum::query(numbers, ends, t, u32::MAX, library_answers, library_bytes)
+            });
             let Outcome::Accepted(library) = outcome else {
                 panic!("{outcome:?}");
             };
             times[0].push(time);
 
-            let (time, outcome) = timed(|| {
+            let (time, outcome) = timed(numbers, || {
                 reference::query(
                     numbers,
                     ends,
@@ -192,8 +193,9 @@ impl Buffers {
             assert_eq!(outcome, expected);
             times[1].push(time);
 
-            let (time, same) =
-                timed(|| ordered::query(numbers, ends, threshold, same_answers, same_bytes));
+            let (time, same) = timed(numbers, || {
+                ordered::query(numbers, ends, threshold, same_answers, same_bytes)
+            });
             let expected = ordered::Counts {
                 answers: library.answers,
                 parts: library.parts,
@@ -203,14 +205,16 @@ impl Buffers {
             assert_eq!(same, Some(expected));
             times[2].push(time);
 
-            let (time, written) =
-                timed(|| baselines::heap_merge(numbers, ends, threshold, heap_answers));
+            let (time, written) = timed(numbers, || {
+                baselines::heap_merge(numbers, ends, threshold, heap_answers)
+            });
             assert_eq!(written, library.answers);
             times[3].push(time);
 
             let scratch = &mut self.scratch;
-            let (time, written) =
-                timed(|| baselines::sort_and_count(numbers, threshold, scratch, sort_answers));
+            let (time, written) = timed(numbers, || {
+                baselines::sort_and_count(numbers, threshold, scratch, sort_answers)
+            });
             assert_eq!(written, library.answers);
             times[4].push(time);
 
@@ -236,7 +240,10 @@ impl Buffers {
     }
 }
 
-fn timed<T>(work: impl FnOnce() -> T) -> (Duration, T) {
+/// Times some work on numbers that were just read, so that none of the ways has
+/// to fetch them for the others.
+fn timed<T>(numbers: &[u32], work: impl FnOnce() -> T) -> (Duration, T) {
+    black_box(numbers.iter().fold(0, |sum: u32, &x| sum.wrapping_add(x)));
     let start = Instant::now();
     let result = black_box(work());
     (start.elapsed(), result)
