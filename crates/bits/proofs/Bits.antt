@@ -24,9 +24,6 @@ bit-or : (m n i : ℕ) → bit (bitOr m n) i ≡ max (bit m i) (bit n i)
 unfolding bit
 bit-or m n i = let e = or-step (m / 2 ^ i) (n / 2 ^ i) in rw (or-shr m n i) (omega arith)
 
-bit-same : (i : ℕ) → bit (2 ^ i) i ≡ 1
-bit-same i = bit-of (2 ^ i) i ∙ rw (div-self (pow-pos i))
-
 bit-other : (i j : ℕ) → i ≢ j → bit (2 ^ j) i ≡ 0
 bit-other i j h =
     ⊎-elim
@@ -37,14 +34,6 @@ bit-other i j h =
     omega arith)
     (λ (l : j ≤ i). bit-above (2 ^ j) i (pow-lt (omega arith)))
     (lt-or-le i j)
-
-pub bit-set : (m i : ℕ) → bit (withRun m i) i ≡ 1
-unfolding withRun
-bit-set m i =
-    let e = bit-or m (2 ^ i) i in
-    let s = bit-same i in
-    let b = bit-small m i in
-    omega arith
 
 pub bit-kept : (m i j : ℕ) → i ≢ j → bit (withRun m j) i ≡ bit m i
 unfolding withRun
@@ -62,7 +51,3 @@ with-new m i h =
     let b : bitAnd (m / 2 ^ i) 1 ≡ 0 = and-mask (m / 2 ^ i) 1 ∙ h in
     let d = rw (split m i, one, b, and-zero-r) at a in
     or-disjoint m (2 ^ i) (d ∙ omega arith)
-
-pub with-fits : (w m i : ℕ) → m < 2 ^ w → i < w → withRun m i < 2 ^ w
-unfolding withRun
-with-fits w m i h l = or-lt w m (2 ^ i) h (pow-lt l)

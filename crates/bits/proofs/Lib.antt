@@ -1,4 +1,3 @@
 pub mod Bits
-pub mod Building
 pub mod Highest
 pub mod Lowest

@@ -105,9 +105,6 @@ module _ (numbers ends positions keys A B : List ℕ) (t : ℕ) (w : State) (s :
         tt,
       )
 
-  pub key-there : t ≤ length ends - w .start → w .start + (t - 1) < length keys
-  key-there h = let e = s .holds .size in let z = s .some in omega arith
-
   -- the t-th key
   abbrev key : ℕ
   key = getD keys (w .start + (t - 1)) 0

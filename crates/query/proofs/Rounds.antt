@@ -58,14 +58,6 @@ round-ends next t f rs h = rw (lt-ltb (count (λ r. ltb (head r) pastBin) rs) t 
 unfoldable pub gapBefore : ℕ → ℕ → List Run → List Event
 gapBefore f v rs = elim (ltb f v) [ true ↦ wrote (gap f (v - 1) (mask (λ r. leb v (head r)) rs)) ∷ [] | false ↦ [] ]
 
-pub gap-there : (f v : ℕ) (rs : List Run) → f < v → gapBefore f v rs ≡ wrote (gap f (v - 1) (mask (λ r. leb v (head r)) rs)) ∷ []
-unfolding gapBefore
-gap-there f v rs h = rw (lt-ltb f v h, gapBefore)
-
-pub gap-none : (f v : ℕ) (rs : List Run) → v ≤ f → gapBefore f v rs ≡ []
-unfolding gapBefore
-gap-none f v rs h = rw (le-ltb f v h, gapBefore)
-
 pub round-is : (next : ℕ → List Run → List Event) (t f v : ℕ) (rs : List Run) → t ≤ below pastBin rs → tthHead t rs ≡ v
     → round next t f rs ≡ gapBefore f v rs ++ (searches v rs ++ settle next t v (map (searched v) rs))
 unfolding round below gapBefore

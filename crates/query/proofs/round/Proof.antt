@@ -1,6 +1,6 @@
 -- `round` ends with the last gap where too few runs have a head, and goes on from the t-th smallest head otherwise. Assumes nothing.
 use native.Mathlib.Omega.{arith}
-use Rattle.query.proofs.Ending.{last-ready, ends-there, key-there, key-fits, advances}
+use Rattle.query.proofs.Ending.{last-ready, ends-there, key-fits, advances}
 use borrow.Author.Needs.{needs}
 use Rattle.query.proofs.round.Statement.{statement}
 use Rattle.query.proofs.round.Tie as tie
