@@ -16,7 +16,7 @@ use Rattle.model.specs.Runs.{Run, one, runsFrom, unrisenAfter, unrisen}
 use Rattle.first_checks.specs.Rising.{onward, fallsIn}
 use Rattle.model.proofs.FirstChecks.{not-fallen, end-last}
 use Rattle.model.proofs.Slices.{part-length}
-use Rattle.model.proofs.Tests.{lt-or-le}
+use Rattle.model.proofs.Tests.{lt-or-le, one-most}
 
 -- ---- the ends
 
@@ -99,11 +99,6 @@ falls-next s i n = rw (add-one n)
 pub falls-first : (s : List ℕ) (i : ℕ) → fallsIn s i 0 ≡ 0
 unfolding fallsIn
 falls-first s i = refl
-
-pub one-most : (b : Bool) → one b ≤ 1
-unfolding one
-one-most true = omega arith
-one-most false = omega arith
 
 pub falls-most : (s : List ℕ) (i n : ℕ) → fallsIn s i n ≤ n
 unfolding fallsIn

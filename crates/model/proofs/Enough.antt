@@ -24,7 +24,7 @@ use Rattle.model.proofs.Events.{parts-round}
 use Rattle.model.proofs.FirstChecks.{first-passed, fit, not-fallen}
 use Rattle.model.proofs.From.{from, from-pass, from-stop, from-nil, from-from, from-length, head-nil, head-cons}
 use Rattle.model.proofs.Heads.{atMost}
-use Rattle.model.proofs.Tests.{lt-or-le, eq-or-ne}
+use Rattle.model.proofs.Tests.{lt-or-le, eq-or-ne, one-most}
 use Rattle.model.proofs.Walking.{fromRun, at, equal, gapAt, answerAt, Walked, over, stop, pass, hit, hit-here}
 
 -- ---- numbers left
@@ -32,11 +32,6 @@ use Rattle.model.proofs.Walking.{fromRun, at, equal, gapAt, answerAt, W
 -- the numbers of all runs from a floor on
 unfoldable left : ℕ → List Run → ℕ
 left f rs = total (λ r. length (from f (r .bins))) rs
-
-one-most : (b : Bool) → one b ≤ 1
-unfolding one
-one-most true = omega arith
-one-most false = omega arith
 
 -- a run whose head is not above v either has v for its head or leaves a number behind on the way to v
 head-passed : (v : ℕ) (s : List ℕ) → v < pastBin → length (from v s) + one (leb (headOf s) v) ≤ length s + one (eqb (headOf (from v s)) v)

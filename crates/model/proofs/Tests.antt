@@ -1,10 +1,13 @@
--- Cases on a test that keep the equation, and the tests `&&`, `||` and `not` taken apart. Assumes nothing.
+-- Cases on a test that keep the equation, the tests `&&`, `||` and `not` taken apart, and a test as a number. Assumes nothing.
 use Prim.Native.Nat.{ℕ, _≤_, _<_}
 use borrow.Author.Tests.{ltb-true, ltb-false, eqb-true, eqb-false}
 use lib.Dec.{ltb, eqb}
 use mathlib.Core.Bool.{Bool, true, false, _&&_, _||_, not}
 use mathlib.Core.Logic.{_⊎_, inl, inr, ⊎-elim, _≢_}
 use mathlib.Core.Path.{_≡_, refl}
+use mir.Val.{boolByte}
+use native.Mathlib.Omega.{arith}
+use Rattle.model.specs.Runs.{one}
 
 pub both : (b : Bool) → (b ≡ true) ⊎ (b ≡ false)
 both true = inl refl
@@ -30,3 +33,13 @@ and-false false b e h = true-false h refl
 pub or-false : (a b : Bool) → (a || b) ≡ false → (a ≡ false) × (b ≡ false)
 or-false true b e = true-false refl e
 or-false false b e = (refl, e)
+
+pub one-most : (b : Bool) → one b ≤ 1
+unfolding one
+one-most true = omega arith
+one-most false = omega arith
+
+pub as-one : (b : Bool) → boolByte b ≡ one b
+unfolding one
+as-one true = refl
+as-one false = refl

@@ -2,7 +2,6 @@
 use Prim.Native.Nat.{ℕ, zero, suc, _+_, _-_, _*_, _^_, _/_, _≤_, _<_}
 use lib.Dec.{ltb, leb}
 use lib.ListN.{length, getD, drop, length-drop}
-use lib.Seq.{getD-drop}
 use mathlib.Core.List.{List, [], _∷_, List·Memᴰ}
 use mathlib.Core.Path.{_≡_, refl, sym, ap, _∙_, subst}
 use native.Mathlib.Omega.{arith}
@@ -11,7 +10,7 @@ use Rattle.model.specs.Runs.{Run, lastBin, pastBin, mask}
 use Rattle.model.specs.Walk.{Event, wrote, head, round, walk}
 use Rattle.model.proofs.Heads.{below}
 use Rattle.model.proofs.Masks.{mask-only}
-use Rattle.order.specs.Row.{labelSum}
+use Rattle.order.specs.Row.{labelSum, nthHead}
 use Rattle.order.proofs.Row.{member-at}
 use Rattle.progress.proofs.Progress.{onward-end}
 use Rattle.query.specs.Turns.{countsOf, goesOn, endsWith, Stands, Fitted, LastReady, LastGap, Goes, Raises, Advances}
@@ -105,33 +104,28 @@ module _ (numbers ends positions keys A B : List ℕ) (t : ℕ) (w : State) (s :
         tt,
       )
 
-  -- the t-th key
-  abbrev key : ℕ
-  key = getD keys (w .start + (t - 1)) 0
-
-  key-is : getD row (t - 1) 0 ≡ key
-  key-is = getD-drop (w .start) keys (t - 1) 0
-
-  pub key-bin : t ≤ length ends - w .start → key / 256 < pastBin
-  key-bin h =
+  -- the t-th key's head
+  pub head-bin : t ≤ length ends - w .start → nthHead t row < pastBin
+  unfolding nthHead
+  head-bin h =
       let e = row-is in
       let z = s .some in
-      subst (λ x. x / 256 < pastBin) key-is (bins (getD row (t - 1) 0) (member-at row (t - 1) (omega arith)))
+      bins (getD row (t - 1) 0) (member-at row (t - 1) (omega arith))
 
-  pub key-fits : t ≤ length ends - w .start → key / 256 < 4294967296
-  key-fits h = let b = key-bin h in let e = past-is in omega arith
+  pub head-fits : t ≤ length ends - w .start → nthHead t row < 4294967296
+  head-fits h = let b = head-bin h in let e = past-is in omega arith
 
-  pub advances : t ≤ length ends - w .start → Advances numbers ends positions t (key / 256)
+  pub advances : t ≤ length ends - w .start → Advances numbers ends positions t (nthHead t row)
+  unfolding nthHead
   advances h =
       let e = row-is in
       let f = row-below in
       let z = s .some in
       record {
-        bin = key-bin h;
+        bin = head-bin h;
         left = omega arith;
         tth =
             tth-key rs (labels numbers ends positions keys (w .start) (s .few) (s .holds)) (few-runs numbers ends positions keys (w .start) (s .few) (s .holds)) row
             (s .holds .order) t (t - 1) (omega arith) (omega arith) (heads-small (w .floor) rs (s .rising))
-            (let n = number numbers ends positions keys (w .start) (s .few) (s .holds) in let k = s .enough in omega arith)
-            ∙ ap (λ x. x / 256) key-is;
+            (let n = number numbers ends positions keys (w .start) (s .few) (s .holds) in let k = s .enough in omega arith);
       }

@@ -294,7 +294,7 @@ fn round(
     if ends.len() - start < threshold {
         return last_gap(ends, keys, certificate, w);
     }
-    let v = keys[start + (threshold - 1)] / 256;
+    let v = order::nth_head(keys, start, threshold);
     advance(
         numbers,
         ends,

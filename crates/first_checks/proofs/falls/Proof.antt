@@ -7,7 +7,8 @@ use lib.ListN.{length, getD}
 use mathlib.Core.Path.{_≡_, sym, ap, ap₂, _∙_}
 use native.Mathlib.Omega.{arith}
 use Rattle.first_checks.specs.Rising.{fallsIn}
-use Rattle.first_checks.proofs.Laws.{falls-next, falls-first, falls-most, one-most}
+use Rattle.first_checks.proofs.Laws.{falls-next, falls-first, falls-most}
+use Rattle.model.proofs.Tests.{one-most}
 use Rattle.first_checks.proofs.falls.Statement.{statement}
 use Rattle.first_checks.proofs.falls.Tie as tie
 

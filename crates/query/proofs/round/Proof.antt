@@ -1,6 +1,8 @@
 -- `round` ends with the last gap where too few runs have a head, and goes on from the t-th smallest head otherwise. Assumes nothing.
+use mathlib.Core.Path.{sym, subst}
 use native.Mathlib.Omega.{arith}
-use Rattle.query.proofs.Ending.{last-ready, ends-there, key-fits, advances}
+use Rattle.query.specs.Turns.{Advances}
+use Rattle.query.proofs.Ending.{last-ready, ends-there, head-fits, advances}
 use borrow.Author.Needs.{needs}
 use Rattle.query.proofs.round.Statement.{statement}
 use Rattle.query.proofs.round.Tie as tie
@@ -28,30 +30,26 @@ returns c =
     ends-there (a .numbers .now) (a .ends .now) (a .positions .now) (a .keys .now) (a .answers .now) (a .certificate .now) (a .threshold) (a .w) (s .pre .0) (s .pre .1)
     (g .last-gap .last .1 .1 .0) (g .last-gap .result) (c .before .before .before .before .before .if1 .taken) (g .last-gap .ensures)
 
-sub-v : tie.Need-sub-v
-sub-v c = search needs
-
-add-v : tie.Need-add-v
-add-v c = search needs
-
-mul-v : tie.Need-mul-v
-mul-v c = search needs
-
-slice-read-v : tie.Need-slice-read-v
-slice-read-v c = search needs
+nth-head-requires : tie.Need-nth-head-requires
+nth-head-requires c κs = search needs
 
 cast-advance : tie.Need-cast-advance
 cast-advance c =
-    let s = c .before .before .before .before .before .before .before .before .before .before .before .before in
+    let s = c .before .before .before .before .before .before .before .before .before .before .before .before .before in
     let a = s .args in
-    let b = key-fits (a .numbers .now) (a .ends .now) (a .positions .now) (a .keys .now) (a .answers .now) (a .certificate .now) (a .threshold) (a .w) (s .pre .0) (s .pre .1) (c .before .before .before .before .before .if1 .left) in
+    let b = head-fits (a .numbers .now) (a .ends .now) (a .positions .now) (a .keys .now) (a .answers .now) (a .certificate .now) (a .threshold) (a .w) (s .pre .0) (s .pre .1) (c .before .before .before .before .before .before .if1 .left) in
+    let e = c .before .before .before .before .nth-head .ensures in
     omega arith
 
 advance-requires : tie.Need-advance-requires
 advance-requires c κs =
-    let s = c .before .before .before .before .before .before .before .before .before .before .before .before in
-    let a = s .args in
-    (s .pre .0, s .pre .1, advances (a .numbers .now) (a .ends .now) (a .positions .now) (a .keys .now) (a .answers .now) (a .certificate .now) (a .threshold) (a .w) (s .pre .0) (s .pre .1) (c .before .before .before .before .before .if1 .left))
+    let s = c .before .before .before .before .before .before .before .before .before .before .before .before .before in
+    let a = s .args in (
+      s .pre .0,
+      s .pre .1,
+      subst (λ v. Advances (a .numbers .now) (a .ends .now) (a .positions .now) (a .threshold) v) (sym (c .before .before .before .before .nth-head .ensures))
+          (advances (a .numbers .now) (a .ends .now) (a .positions .now) (a .keys .now) (a .answers .now) (a .certificate .now) (a .threshold) (a .w) (s .pre .0) (s .pre .1) (c .before .before .before .before .before .before .if1 .left)),
+    )
 
 same-length-3 : tie.Need-same-length-3
 same-length-3 c = search needs
@@ -66,7 +64,7 @@ same-length-6 : tie.Need-same-length-6
 same-length-6 c = search needs
 
 returns-2 : tie.Need-returns-2
-returns-2 c = c .before .before .before .before .before .before .before .before .advance .ensures
+returns-2 c = search needs
 
 pub round-spec : {M : Type 1} → statement M
 round-spec =
@@ -77,10 +75,7 @@ round-spec =
     same-length
     same-length-2
     returns
-    sub-v
-    add-v
-    mul-v
-    slice-read-v
+    nth-head-requires
     cast-advance
     advance-requires
     same-length-3
