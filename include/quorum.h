@@ -102,7 +102,7 @@ void quorum_query(const uint32_t *numbers, size_t numbers_len,
  * before the next, so the refusal is that of the first wrong one.
  *
  * Cost: one pass over the numbers for the first checks, then at most
- * numbers + 2 * parts * runs steps.
+ * numbers + parts * runs steps.
  *
  * Example, after the one above:
  *

@@ -1,5 +1,5 @@
 -- A run scanned from its cursor on, over the numbers below a bin, and what its first number from the bin on says of an answer or a gap. Assumes nothing.
-use Prim.Native.Nat.{ℕ, suc, _+_, _-_, _≤_, _<_}
+use Prim.Native.Nat.{ℕ, suc, _+_, _≤_, _<_}
 use lib.Dec.{leb, eqb}
 use lib.ListN.{length, getD, set, length-set}
 use lib.Seq.{getD-set-same, getD-set-other}
@@ -9,7 +9,7 @@ use mathlib.Core.Logic.{⊎-elim, _≢_}
 use mathlib.Core.Path.{_≡_, refl, sym, ap, _∙_, subst}
 use native.Mathlib.Numerals.{add-one}
 use native.Mathlib.Omega.{arith}
-use Rattle.model.proofs.From.{rise-from, from, from-pass, from-stop, from-nil, head-cons, head-nil, head-bin}
+use Rattle.model.proofs.From.{rise-from, from, from-pass, from-stop, from-nil, head-cons, head-nil, head-least, head-bin}
 use Rattle.model.proofs.Slices.{part-cons, part-empty}
 use Rattle.model.proofs.Tests.{lt-or-le, eq-or-ne}
 use Rattle.model.specs.Runs.{pastBin, slice}
@@ -43,22 +43,24 @@ clash-missed false f l x e = refl
 
 -- ---- the scan of a run
 
--- run i scanned up to place j: nothing from `first` on was passed
-pub record Here (numbers ends : List ℕ) (i end first j : ℕ) : Type 0 where
+-- run i scanned up to place j, where its number is x: nothing from `first` on was passed
+pub record Here (numbers ends : List ℕ) (i end first j x : ℕ) : Type 0 where
   pub order : j ≤ end
   pub inside : end ≤ length numbers
   pub ending : end ≡ getD ends i 0
+  pub number : x ≡ headOf (slice numbers j end)
   pub same : (v : ℕ) → first ≤ v → from v (binsOf numbers ends i) ≡ from v (slice numbers j end)
 
-pub here-start : (numbers ends cursors : List ℕ) (i end first j : ℕ) → i < length ends → Cursors numbers ends cursors first → end ≡ getD ends i 0
-    → j ≡ placeOf (getD cursors i 0) → Here numbers ends i end first j
-here-start numbers ends cursors i end first j l c ee ej =
+pub here-start : (numbers ends cursors : List ℕ) (i end first j x : ℕ) → i < length ends → Cursors numbers ends cursors first → end ≡ getD ends i 0
+    → j ≡ placeOf (getD cursors i 0) → x ≡ binOf (getD cursors i 0) → Here numbers ends i end first j x
+here-start numbers ends cursors i end first j x l c ee ej ex =
     let b = c .before i l in
     let d = c .inside i l in
     record {
       order = omega arith;
       inside = omega arith;
       ending = ee;
+      number = ex ∙ (c .exact i l ∙ (λ s. headOf (slice numbers (sym ej s) (sym ee s))));
       same = λ v h. c .same i l v h ∙ (λ s. from v (slice numbers (sym ej s) (sym ee s)));
     }
 
@@ -66,7 +68,7 @@ not-below : (a b : ℕ) → a ≡ 4294967296 → a < b → b < pastBin → ⊥
 unfolding pastBin
 not-below a b e h k = omega arith
 
-module _ (numbers ends : List ℕ) (i end first j x : ℕ) (h : Here numbers ends i end first j) (e : x ≡ headOf (slice numbers j end)) where
+module _ (numbers ends : List ℕ) (i end first j x : ℕ) (h : Here numbers ends i end first j x) where
   pub here-more : x < first → first < pastBin → j < end
   here-more l k =
       ⊎-elim
@@ -75,17 +77,19 @@ module _ (numbers ends : List ℕ) (i end first j x : ℕ) (h : Here numbers end
       let o = h .order in
       let w : j ≡ end = omega arith in
       let z : 4294967296 ≡ headOf (slice numbers j end) = number-past numbers j end w in
-      absurd (not-below x first (e ∙ sym z) l k))
+      absurd (not-below x first (h .number ∙ sym z) l k))
       (lt-or-le j end)
 
-  pub here-on : x < first → first < pastBin → Here numbers ends i end first (j + 1)
-  here-on l k =
+  pub here-on : x < first → first < pastBin → (x′ : ℕ) → x′ ≡ headOf (slice numbers (j + 1) end) → Here numbers ends i end first (j + 1) x′
+  here-on l k x′ e =
       let m = here-more l k in
+      let n = h .number in
       let y = number-there numbers j end m (h .inside) in
       record {
         order = omega arith;
         inside = h .inside;
         ending = h .ending;
+        number = e;
         same = λ v w.
             h .same v w
             ∙ (ap (from v) (part-cons j end numbers m (h .inside))
@@ -98,6 +102,7 @@ module _ (numbers ends : List ℕ) (i end first j x : ℕ) (h : Here numbers end
   here-head l =
       ⊎-elim
       (λ (q : j < end).
+      let n = h .number in
       let y = number-there numbers j end q (h .inside) in
       ap headOf
       (h .same first (omega arith)
@@ -106,13 +111,26 @@ module _ (numbers ends : List ℕ) (i end first j x : ℕ) (h : Here numbers end
       (λ (q : end ≤ j).
       let o = h .order in
       let w : slice numbers j end ≡ [] = let z : j ≡ end = omega arith in (λ s. slice numbers (z s) end) ∙ part-empty end numbers in
-      ap headOf (h .same first (omega arith) ∙ (ap (from first) w ∙ from-nil first)) ∙ (sym (ap headOf w) ∙ sym e))
+      ap headOf (h .same first (omega arith) ∙ (ap (from first) w ∙ from-nil first)) ∙ (sym (ap headOf w) ∙ sym (h .number)))
       (lt-or-le j end)
+
+-- a run has no number from `first` on below its cursor's bin
+pub ahead : (numbers ends cursors : List ℕ) (i first : ℕ) → i < length ends → Cursors numbers ends cursors first → first < pastBin
+    → binOf (getD cursors i 0) ≤ headIn numbers ends i first
+ahead numbers ends cursors i first l c k =
+    let w = getD cursors i 0 in
+    ⊎-elim
+    (λ (q : binOf w < first). let m = head-least (rise-from first (binsOf numbers ends i) (c .risen i l)) (omega arith) in omega arith)
+    (λ (q : first ≤ binOf w).
+    let h = here-start numbers ends cursors i (getD ends i 0) first (placeOf w) (binOf w) l c refl refl refl in
+    let e = here-head numbers ends i (getD ends i 0) first (placeOf w) (binOf w) h q in
+    omega arith)
+    (lt-or-le (binOf w) first)
 
 -- ---- a cursor put where the scan stopped
 
 module _ (numbers ends cursors : List ℕ) (i end first j x w : ℕ) (l : i < length ends) (c : Cursors numbers ends cursors first)
-    (h : Here numbers ends i end first j) (e : headIn numbers ends i first ≡ x) (ew : (placeOf w ≡ j) × (binOf w ≡ x)) where
+    (h : Here numbers ends i end first j x) (ew : (placeOf w ≡ j) × (binOf w ≡ x)) where
   pub cursors-on : (cursors′ : List ℕ) → cursors′ ≡ set cursors i w → Cursors numbers ends cursors′ first
   cursors-on cursors′ r =
       let z = c .lengths in
@@ -137,12 +155,13 @@ module _ (numbers ends cursors : List ℕ) (i end first j x w : ℕ) (l : i < le
             (h .same v g ∙ (λ s. from v (slice numbers (sym (ap placeOf a ∙ ew .0) s) (h .ending s)))))
             (λ (q : n ≢ i). c .same n k v g ∙ (λ s. from v (slice numbers (placeOf (sym (other n q cursors′ r) s)) (getD ends n 0))))
             (eq-or-ne n i);
-        ahead = λ n k.
+        exact = λ n k.
             ⊎-elim
             (λ (q : n ≡ i).
-            subst (λ y. binOf (getD cursors′ y 0) ≤ headIn numbers ends y first) (sym q)
-            (let p = ap binOf a ∙ ew .1 in omega arith))
-            (λ (q : n ≢ i). subst (λ y. binOf y ≤ headIn numbers ends n first) (sym (other n q cursors′ r)) (c .ahead n k))
+            subst (λ y. binOf (getD cursors′ y 0) ≡ headOf (slice numbers (placeOf (getD cursors′ y 0)) (getD ends y 0))) (sym q)
+            (ap binOf a ∙ (ew .1 ∙ (h .number ∙ (λ s. headOf (slice numbers (sym (ap placeOf a ∙ ew .0) s) (h .ending s)))))))
+            (λ (q : n ≢ i).
+            subst (λ y. binOf y ≡ headOf (slice numbers (placeOf y) (getD ends n 0))) (sym (other n q cursors′ r)) (c .exact n k))
             (eq-or-ne n i);
       }
     where

@@ -1,5 +1,5 @@
 -- The cursors put at the runs' first numbers, and what the first checks give for them. Assumes nothing.
-use Prim.Native.Nat.{ℕ, zero, suc, _+_, _-_, _≤_, _<_}
+use Prim.Native.Nat.{ℕ, zero, suc, _+_, _≤_, _<_}
 use lib.ListN.{length, getD, set, length-set}
 use lib.Seq.{getD-set-same, getD-set-other}
 use mathlib.Core.List.{List, [], _∷_, List·Memᴰ, List·Memᴰ·head, List·Memᴰ·tail}
@@ -9,61 +9,79 @@ use native.Mathlib.Numerals.{add-one}
 use native.Mathlib.Omega.{arith}
 use Rattle.first_checks.proofs.Laws.{Ordered, next-end, next-ordered}
 use Rattle.model.proofs.FirstChecks.{first-passed, fit}
-use Rattle.model.proofs.From.{from}
+use Rattle.model.proofs.From.{from, head-bin}
 use Rattle.model.proofs.Tests.{eq-or-ne}
 use Rattle.model.specs.Demands.{Fits}
 use Rattle.model.specs.Refusals.{passed, firstChecks}
 use Rattle.model.specs.Runs.{pastBin, runs, runsFrom, slice}
-use Rattle.checker.specs.Cursors.{startOf, placeOf, Cursors, Begins}
-use Rattle.checker.proofs.Reaching.{place-at, bin-at}
+use Rattle.model.specs.Walk.{headOf}
+use Rattle.checker.specs.Cursors.{startOf, binsOf, placeOf, binOf, Cursors, Begins}
 
 -- the cursors of the runs before i are placed
-pub record Placed (ends cursors : List ℕ) (start i : ℕ) : Type 0 where
+pub record Placed (numbers ends cursors : List ℕ) (start i : ℕ) : Type 0 where
   pub lengths : length cursors ≡ length ends
   pub next : start ≡ startOf ends i
-  pub each : (j : ℕ) → j < i → getD cursors j 0 ≡ startOf ends j
+  pub places : (j : ℕ) → j < i → placeOf (getD cursors j 0) ≡ startOf ends j
+  pub firsts : (j : ℕ) → j < i → binOf (getD cursors j 0) ≡ headOf (binsOf numbers ends j)
 
-pub placed-none : (ends cursors : List ℕ) → length cursors ≡ length ends → Placed ends cursors 0 0
-placed-none ends cursors e = record { lengths = e; next = refl; each = λ j h. absurd (omega arith) }
+pub placed-none : (numbers ends cursors : List ℕ) → length cursors ≡ length ends → Placed numbers ends cursors 0 0
+placed-none numbers ends cursors e = record { lengths = e; next = refl; places = λ j h. absurd (omega arith); firsts = λ j h. absurd (omega arith) }
 
-pub placed-on : (ends cursors : List ℕ) (start i w : ℕ) → i < length ends → w ≡ start → Placed ends cursors start i
-    → Placed ends (set cursors i w) (getD ends i 0) (i + 1)
-placed-on ends cursors start i w l e p =
-    let z = p .lengths in
-    record {
-      lengths = length-set cursors i w ∙ z;
-      next = ap (startOf ends) (sym (add-one i));
-      each = λ j h.
-          ⊎-elim
-          (λ (q : j ≡ i).
-          subst (λ x. getD (set cursors i w) x 0 ≡ startOf ends x) (sym q) (getD-set-same cursors i w 0 (omega arith) ∙ (e ∙ p .next)))
-          (λ (q : j ≢ i). getD-set-other cursors i j w 0 q ∙ p .each j (omega arith))
-          (eq-or-ne j i);
-    }
+module _ {numbers ends cursors₀ cursors : List ℕ} {start i : ℕ} (b : Begins numbers ends cursors₀) (p : Placed numbers ends cursors start i) where
+  module _ (l : i < length ends) {end : ℕ} (ee : end ≡ getD ends i 0) where
+    pub start-inside : (start ≤ end) × (end ≤ length numbers)
+    start-inside =
+        let n = p .next in
+        let s = b .starts i l in
+        let k = b .inside i l in
+        (omega arith, omega arith)
 
-pub placed-all : (numbers ends cursors₀ cursors : List ℕ) (start i : ℕ) → Begins numbers ends cursors₀ → length ends ≤ i → Placed ends cursors start i
-    → Cursors numbers ends cursors 0
-placed-all numbers ends cursors₀ cursors start i b l p =
-    record {
-      few = b .few;
-      short = b .short;
-      inside = b .inside;
-      risen = b .risen;
-      lengths = p .lengths;
-      before = λ j h. let e = placed-at j h in let s = b .starts j h in omega arith;
-      same = λ j h v q. λ s. from v (slice numbers (sym (placed-at j h) s) (getD ends j 0));
-      ahead = λ j h. let e = bin-at 0 (startOf ends j) (getD cursors j 0) (starts-low j h) (p .each j (omega arith) ∙ omega arith) in omega arith;
-    }
-  where
-    starts-low : (j : ℕ) → j < length ends → startOf ends j < 2097152
-    starts-low j h =
-        let s = b .starts j h in
-        let n = b .inside j h in
-        let m = b .short in
-        omega arith
+    module _ {x : ℕ} (ex : x ≡ headOf (slice numbers start end)) where
+      first-is : x ≡ headOf (binsOf numbers ends i)
+      first-is = ex ∙ (λ s. headOf (slice numbers (p .next s) (ee s)))
 
-    placed-at : (j : ℕ) → j < length ends → placeOf (getD cursors j 0) ≡ startOf ends j
-    placed-at j h = place-at 0 (startOf ends j) (getD cursors j 0) (starts-low j h) (p .each j (omega arith) ∙ omega arith)
+      pub start-fits : (x ≤ 4294967296) × (start < 2097152)
+      unfolding pastBin
+      start-fits =
+          let s = start-inside in
+          let m = b .short in
+          let h = head-bin (b .risen i l) in
+          let f = first-is in
+          (omega arith, omega (arith, s .0, s .1))
+
+      pub placed-on : (w : ℕ) → (placeOf w ≡ start) × (binOf w ≡ x) → Placed numbers ends (set cursors i w) end (i + 1)
+      placed-on w ew =
+          let z = p .lengths in
+          let a : getD (set cursors i w) i 0 ≡ w = getD-set-same cursors i w 0 (omega arith) in
+          record {
+            lengths = length-set cursors i w ∙ z;
+            next = ee ∙ ap (startOf ends) (sym (add-one i));
+            places = λ j h.
+                ⊎-elim
+                (λ (q : j ≡ i).
+                subst (λ y. placeOf (getD (set cursors i w) y 0) ≡ startOf ends y) (sym q) (ap placeOf a ∙ (ew .0 ∙ p .next)))
+                (λ (q : j ≢ i). ap placeOf (getD-set-other cursors i j w 0 q) ∙ p .places j (omega arith))
+                (eq-or-ne j i);
+            firsts = λ j h.
+                ⊎-elim
+                (λ (q : j ≡ i).
+                subst (λ y. binOf (getD (set cursors i w) y 0) ≡ headOf (binsOf numbers ends y)) (sym q) (ap binOf a ∙ (ew .1 ∙ first-is)))
+                (λ (q : j ≢ i). ap binOf (getD-set-other cursors i j w 0 q) ∙ p .firsts j (omega arith))
+                (eq-or-ne j i);
+          }
+
+  pub placed-all : length ends ≤ i → Cursors numbers ends cursors 0
+  placed-all l =
+      record {
+        few = b .few;
+        short = b .short;
+        inside = b .inside;
+        risen = b .risen;
+        lengths = p .lengths;
+        before = λ j h. let e = p .places j (omega arith) in let s = b .starts j h in omega arith;
+        same = λ j h v q. λ s. from v (slice numbers (sym (p .places j (omega arith)) s) (getD ends j 0));
+        exact = λ j h. p .firsts j (omega arith) ∙ (λ s. headOf (slice numbers (sym (p .places j (omega arith)) s) (getD ends j 0)));
+      }
 
 -- ---- what the first checks give
 

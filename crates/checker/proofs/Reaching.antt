@@ -1,6 +1,7 @@
 -- A cursor as one number, and the runs that may have a number up to a bin. Assumes nothing.
-use Prim.Native.Nat.{ℕ, zero, suc, _+_, _-_, _*_, _/_, _%_, _^_, _≤_, _<_}
+use Prim.Native.Nat.{ℕ, zero, suc, _+_, _-_, _*_, _/_, _%_, _^_, _≤_, _<_, min}
 use borrow.Author.Tests.{leb-false, le-leb, lt-leb, le-ltb, lt-ltb}
+use lib.Bits.{bitAnd, and-step, and-shr}
 use lib.Dec.{leb, ltb}
 use lib.ListN.{length, getD, drop, length-drop, drop-of-length-le}
 use lib.Pow.{pow-mono}
@@ -13,7 +14,7 @@ use mir.Val.{boolByte}
 use native.Mathlib.Nat.{pow-suc}
 use native.Mathlib.Omega.{arith}
 use Rattle.bits.proofs.Lowest.{bit-zero, bit-half}
-use Rattle.model.proofs.Masks.{below-only}
+use Rattle.model.proofs.Masks.{bit-small}
 use Rattle.model.proofs.Tests.{both, lt-or-le}
 use Rattle.model.specs.Runs.{bit, one}
 use Rattle.checker.specs.Cursors.{placeOf, binOf, reachedOf, toScan}
@@ -31,6 +32,10 @@ bin-at b p c h e = omega arith
 pub place-is : (c : ℕ) → c % 2097152 ≡ placeOf c
 unfolding placeOf
 place-is c = refl
+
+pub bin-is : (c : ℕ) → c / 2097152 ≡ binOf c
+unfolding binOf
+bin-is c = refl
 
 as-one : (b : Bool) → boolByte b ≡ one b
 unfolding one
@@ -104,22 +109,30 @@ reached-bit l (c ∷ s) (suc i) h =
     let d : reachedOf l (c ∷ s) / 2 ≡ reachedOf l s = omega arith in
     bit-half (reachedOf l (c ∷ s)) i ∙ (ap (λ x. bit x i) d ∙ reached-bit l s i (omega arith))
 
--- ---- the runs to look at
+-- ---- the runs to take up
+
+bit-and : (m n i : ℕ) → bit (bitAnd m n) i ≡ min (bit m i) (bit n i)
+unfolding bit
+bit-and m n i = let e = and-step (m / 2 ^ i) (n / 2 ^ i) in rw (and-shr m n i) (omega arith)
 
 pub to-scan-held : (held : Bool) (l m : ℕ) (s : List ℕ) → held ≡ true → m ≡ toScan held l m s
 unfolding toScan
 to-scan-held true l m s e = refl
 to-scan-held false l m s e = Rattle.model.proofs.Tests.true-false e refl
 
-pub to-scan-gap : (held : Bool) (l m r : ℕ) (s : List ℕ) → held ≡ false → r ≡ reachedOf l s → r ≡ toScan held l m s
+pub to-scan-gap : (held : Bool) (l m r : ℕ) (s : List ℕ) → held ≡ false → r ≡ reachedOf l s → bitAnd r m ≡ toScan held l m s
 unfolding toScan
 to-scan-gap true l m r s e f = Rattle.model.proofs.Tests.true-false refl e
-to-scan-gap false l m r s e f = f
+to-scan-gap false l m r s e f = ap (λ x. bitAnd x m) f
 
-pub to-scan-below : (held : Bool) (l m : ℕ) (s : List ℕ) (i : ℕ) → m < 2 ^ length s → bit (toScan held l m s) i ≡ 1 → i < length s
+-- only runs that the mask names are taken up
+pub to-scan-named : (held : Bool) (l m : ℕ) (s : List ℕ) (i : ℕ) → bit (toScan held l m s) i ≡ 1 → bit m i ≡ 1
 unfolding toScan
-to-scan-below true l m s i h e = below-only m (length s) i h e
-to-scan-below false l m s i h e = below-only (reachedOf l s) (length s) i (reached-lt l s) e
+to-scan-named true l m s i e = e
+to-scan-named false l m s i e =
+    let b = bit-and (reachedOf l s) m i in
+    let k = bit-small m i in
+    omega arith
 
 unreached : (x y : ℕ) → one (leb x y) ≡ 0 → y < x
 unfolding one
@@ -129,9 +142,12 @@ unreached x y e =
     (λ (t : leb x y ≡ false). leb-false x y t)
     (both (leb x y))
 
--- a named run that need not be looked at
+-- a named run that is not taken up
 pub to-scan-not : (held : Bool) (l m : ℕ) (s : List ℕ) (i : ℕ) → i < length s → bit (toScan held l m s) i ≡ 0 → bit m i ≡ 1
     → (held ≡ false) × (l < binOf (getD s i 0))
 unfolding toScan
 to-scan-not true l m s i h e n = absurd (omega arith)
-to-scan-not false l m s i h e n = (refl, unreached (binOf (getD s i 0)) l (sym (reached-bit l s i h) ∙ e))
+to-scan-not false l m s i h e n =
+    let b = bit-and (reachedOf l s) m i in
+    let z : bit (reachedOf l s) i ≡ 0 = let k = bit-small (reachedOf l s) i in omega arith in
+    (refl, unreached (binOf (getD s i 0)) l (sym (reached-bit l s i h) ∙ z))

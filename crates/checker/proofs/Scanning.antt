@@ -1,6 +1,6 @@
 -- The scan of the runs that a part names: over the runs, and over the numbers of one. Assumes nothing.
 use Prim.Native.Nat.{ℕ, _+_, _^_, _≤_, _<_}
-use borrow.Author.Tests.{eq-eqb, ne-eqb, eqb-true, eqb-false}
+use borrow.Author.Tests.{eq-eqb, ne-eqb}
 use lib.Dec.{eqb}
 use lib.ListN.{length, getD, set}
 use mathlib.Core.Bool.{Bool, true, false, not}
@@ -9,15 +9,15 @@ use mathlib.Core.Logic.{⊎-elim, _≢_}
 use mathlib.Core.Path.{_≡_, refl, sym, ap, _∙_, subst}
 use native.Mathlib.Omega.{arith}
 use Rattle.bits.proofs.Lowest.{cleared-other}
-use Rattle.bits.specs.Bits.{Lowest}
+use Rattle.model.proofs.Masks.{below-only}
 use Rattle.model.proofs.Tests.{eq-or-ne}
 use Rattle.model.specs.Refusals.{contradicts, anyContradicts}
 use Rattle.model.specs.Runs.{pastBin, slice, runs, bit}
 use Rattle.model.specs.Walk.{headOf}
 use Rattle.checker.specs.Cursors.{runAt, headIn, placeOf, binOf, toScan, Cursors, clash, claim}
-use Rattle.checker.proofs.Moving.{Here, here-start, here-more, here-on, here-head, cursors-on, head-fits}
+use Rattle.checker.proofs.Moving.{Here, here-start, here-more, here-on, here-head, ahead, cursors-on, head-fits}
 use Rattle.checker.proofs.Naming.{bit-none, named-says, unnamed-agrees, clash-above, none-contradicts, one-contradicts}
-use Rattle.checker.proofs.Reaching.{to-scan-below, to-scan-not}
+use Rattle.checker.proofs.Reaching.{to-scan-named, to-scan-not}
 
 -- ---- over the runs
 
@@ -26,7 +26,8 @@ pub record Sofar (numbers ends : List ℕ) (held : Bool) (f l m : ℕ) (cursors 
   pub ready : Cursors numbers ends cursors f
   pub low : f < pastBin
   pub high : l < pastBin
-  pub within : (i : ℕ) → bit rest i ≡ 1 → i < length ends
+  pub below : m < 2 ^ length ends
+  pub named : (i : ℕ) → bit rest i ≡ 1 → bit m i ≡ 1
   pub agreed : (i : ℕ) → i < length ends → bit rest i ≡ 0 → contradicts (claim held f l m) (runAt numbers ends i) ≡ false
 
 pub sofar-start : (numbers ends : List ℕ) (held : Bool) (f l m : ℕ) (cursors : List ℕ) (rest : ℕ) → f < pastBin → l < pastBin
@@ -36,16 +37,14 @@ sofar-start numbers ends held f l m cursors rest a b c s e =
       ready = c;
       low = a;
       high = b;
-      within = λ i q.
-          let z = c .lengths in
-          let b = to-scan-below held l m cursors i (subst (λ x. m < 2 ^ x) (sym z) s) (ap (λ x. bit x i) (sym e) ∙ q) in
-          omega arith;
+      below = s;
+      named = λ i q. to-scan-named held l m cursors i (ap (λ x. bit x i) (sym e) ∙ q);
       agreed = λ i h q.
           ⊎-elim
           (λ (n : bit m i ≡ 1).
           let z = c .lengths in
           let d = to-scan-not held l m cursors i (omega arith) (ap (λ x. bit x i) (sym e) ∙ q) n in
-          let g = c .ahead i h in
+          let g = ahead numbers ends cursors i f h c a in
           sym (named-says numbers ends held f l m i (headIn numbers ends i f) (c .risen i h) a b n refl)
           ∙ clash-above held f l (headIn numbers ends i f) (d .0) (omega (arith, d .1)))
           (λ (n : bit m i ≢ 1). unnamed-agrees numbers ends held f l m i n)
@@ -66,10 +65,11 @@ module _ (numbers ends : List ℕ) (held : Bool) (f l m : ℕ) (cursors : List �
         ready = c;
         low = s .low;
         high = s .high;
-        within = λ i q.
+        below = s .below;
+        named = λ i q.
             ⊎-elim
-            (λ (z : i ≡ run). subst (λ u. u < length ends) (sym z) (s .within run n))
-            (λ (z : i ≢ run). s .within i (sym (cleared-other rest rest′ run i n er z) ∙ q))
+            (λ (z : i ≡ run). subst (λ u. bit m u ≡ 1) (sym z) (s .named run n))
+            (λ (z : i ≢ run). s .named i (sym (cleared-other rest rest′ run i n er z) ∙ q))
             (eq-or-ne i run);
         agreed = λ i k q.
             ⊎-elim
@@ -78,79 +78,69 @@ module _ (numbers ends : List ℕ) (held : Bool) (f l m : ℕ) (cursors : List �
             (eq-or-ne i run);
       }
 
--- a run that the part does not name
-pub sofar-unnamed : (numbers ends : List ℕ) (held : Bool) (f l m : ℕ) (cursors : List ℕ) (rest run : ℕ) → Sofar numbers ends held f l m cursors rest
-    → Lowest rest run → (y : Bool) → y ≡ eqb (bit m run) 1 → y ≡ false → (rest′ : ℕ) → rest′ + 2 ^ run ≡ rest → Sofar numbers ends held f l m cursors rest′
-sofar-unnamed numbers ends held f l m cursors rest run s o y ey t rest′ er =
-    sofar-on numbers ends held f l m cursors rest run s (o .here)
-    (unnamed-agrees numbers ends held f l m run (eqb-false (bit m run) 1 (sym ey ∙ t))) rest′ er cursors (s .ready)
+-- ---- over the numbers of a run of the rest
 
--- ---- over the numbers of a named run of the rest
-
-pub record Scan (numbers ends : List ℕ) (held : Bool) (f l m : ℕ) (cursors : List ℕ) (rest run i end j : ℕ) : Type 0 where
+pub record Scan (numbers ends : List ℕ) (held : Bool) (f l m : ℕ) (cursors : List ℕ) (rest run i end j x : ℕ) : Type 0 where
   pub sofar : Sofar numbers ends held f l m cursors rest
-  pub here : Here numbers ends i end f j
+  pub here : Here numbers ends i end f j x
   pub which : i ≡ run
   pub of-rest : bit rest run ≡ 1
-  pub named : bit m run ≡ 1
 
-module _ (numbers ends : List ℕ) (held : Bool) (f l m : ℕ) (cursors : List ℕ) (rest run i : ℕ) (s : Sofar numbers ends held f l m cursors rest)
-    (o : Lowest rest run) (e : i ≡ run) where
+module _ {numbers ends : List ℕ} {held : Bool} {f l m : ℕ} {cursors : List ℕ} {rest run i : ℕ} (s : Sofar numbers ends held f l m cursors rest)
+    (o : bit rest run ≡ 1) (e : i ≡ run) where
   pub run-below : i < length ends
-  run-below = subst (λ x. x < length ends) (sym e) (s .within run (o .here))
+  run-below = subst (λ x. x < length ends) (sym e) (below-only m (length ends) run (s .below) (s .named run o))
 
-  pub scan-start : (y : Bool) → y ≡ eqb (bit m run) 1 → y ≡ true → (end j : ℕ) → end ≡ getD ends i 0 → j ≡ placeOf (getD cursors i 0)
-      → Scan numbers ends held f l m cursors rest run i end j
-  scan-start y ey t end j ee ej =
+  pub scan-start : {end j x : ℕ} → end ≡ getD ends i 0 → j ≡ placeOf (getD cursors i 0) → x ≡ binOf (getD cursors i 0)
+      → Scan numbers ends held f l m cursors rest run i end j x
+  scan-start {end} {j} {x} ee ej ex =
       record {
         sofar = s;
-        here = here-start numbers ends cursors i end f j run-below (s .ready) ee ej;
+        here = here-start numbers ends cursors i end f j x run-below (s .ready) ee ej ex;
         which = e;
-        of-rest = o .here;
-        named = eqb-true (bit m run) 1 (sym ey ∙ t);
+        of-rest = o;
       }
 
-module _ (numbers ends : List ℕ) (held : Bool) (f l m : ℕ) (cursors : List ℕ) (rest run i end j x : ℕ)
-    (s : Scan numbers ends held f l m cursors rest run i end j) (ex : x ≡ headOf (slice numbers j end)) where
+module _ {numbers ends : List ℕ} {held : Bool} {f l m : ℕ} {cursors : List ℕ} {rest run i end j x : ℕ}
+    (s : Scan numbers ends held f l m cursors rest run i end j x) where
   inside : i < length ends
-  inside = subst (λ y. y < length ends) (sym (s .which)) (s .sofar .within run (s .of-rest))
+  inside = run-below (s .sofar) (s .of-rest) (s .which)
 
-  pub scan-more : x < f → j < end
-  scan-more h = here-more numbers ends i end f j x (s .here) ex h (s .sofar .low)
+  pub scan-more : x < f → (j + 1 ≤ end) × (end ≤ length numbers)
+  scan-more h = let k = here-more numbers ends i end f j x (s .here) h (s .sofar .low) in (omega arith, s .here .inside)
 
-  pub scan-on : x < f → Scan numbers ends held f l m cursors rest run i end (j + 1)
-  scan-on h =
+  pub scan-on : x < f → {x′ : ℕ} → x′ ≡ headOf (slice numbers (j + 1) end) → Scan numbers ends held f l m cursors rest run i end (j + 1) x′
+  scan-on h {x′} e =
       record {
         sofar = s .sofar;
-        here = here-on numbers ends i end f j x (s .here) ex h (s .sofar .low);
+        here = here-on numbers ends i end f j x (s .here) h (s .sofar .low) x′ e;
         which = s .which;
         of-rest = s .of-rest;
-        named = s .named;
       }
 
   module _ (h : f ≤ x) where
     first-is : headIn numbers ends i f ≡ x
-    first-is = here-head numbers ends i end f j x (s .here) ex h
+    first-is = here-head numbers ends i end f j x (s .here) h
 
     said : clash held f l x ≡ contradicts (claim held f l m) (runAt numbers ends i)
     said =
-        named-says numbers ends held f l m i x (s .sofar .ready .risen i inside) (s .sofar .low) (s .sofar .high) (ap (bit m) (s .which) ∙ s .named) first-is
+        named-says numbers ends held f l m i x (s .sofar .ready .risen i inside) (s .sofar .low) (s .sofar .high)
+        (ap (bit m) (s .which) ∙ s .sofar .named run (s .of-rest)) first-is
 
-    pub scan-fits : (x ≤ 4294967296) × (j < 2097152)
+    pub scan-fits : (x ≤ 4294967296) × (j ≤ end) × (end < 2097152)
     scan-fits =
         let b = head-fits numbers ends cursors i f f inside (s .sofar .ready) in
         let e = first-is in
-        let o = s .here .order in
         let n = s .here .inside in
         let k = s .sofar .ready .short in
-        (omega arith, omega arith)
+        (omega arith, s .here .order, omega arith)
 
-    pub scan-found : (y : Bool) → y ≡ clash held f l x → y ≡ true → rest ≢ 0 → not (eqb rest 0) ≡ anyContradicts (claim held f l m) (runs numbers ends)
-    scan-found y ey t n = ap not (ne-eqb rest 0 n) ∙ one-contradicts numbers ends (claim held f l m) i inside (sym said ∙ (sym ey ∙ t))
+    pub scan-found : {y : Bool} → y ≡ clash held f l x → y ≡ true → rest ≢ 0 → not (eqb rest 0) ≡ anyContradicts (claim held f l m) (runs numbers ends)
+    scan-found ey t n = ap not (ne-eqb rest 0 n) ∙ one-contradicts numbers ends (claim held f l m) i inside (sym said ∙ (sym ey ∙ t))
 
-    pub scan-agrees : (y : Bool) → y ≡ clash held f l x → y ≡ false → (w : ℕ) → (placeOf w ≡ j) × (binOf w ≡ x) → (rest′ : ℕ) → rest′ + 2 ^ run ≡ rest
+    pub scan-agrees : {y : Bool} → y ≡ clash held f l x → y ≡ false → (w : ℕ) → (placeOf w ≡ j) × (binOf w ≡ x) → {rest′ : ℕ} → rest′ + 2 ^ run ≡ rest
         → Sofar numbers ends held f l m (set cursors i w) rest′
-    scan-agrees y ey t w ew rest′ er =
+    scan-agrees ey t w ew {rest′} er =
         sofar-on numbers ends held f l m cursors rest run (s .sofar) (s .of-rest)
         (subst (λ u. contradicts (claim held f l m) (runAt numbers ends u) ≡ false) (s .which) (sym said ∙ (sym ey ∙ t))) rest′ er (set cursors i w)
-        (cursors-on numbers ends cursors i end f j x w inside (s .sofar .ready) (s .here) first-is ew (set cursors i w) refl)
+        (cursors-on numbers ends cursors i end f j x w inside (s .sofar .ready) (s .here) ew (set cursors i w) refl)

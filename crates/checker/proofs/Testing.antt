@@ -7,7 +7,7 @@ use lib.ListN.{length}
 use lib.Pow.{pow-pos}
 use mathlib.Core.Bool.{Bool, true, false, _||_, not}
 use mathlib.Core.List.{List}
-use mathlib.Core.Logic.{⊎-elim, _≢_}
+use mathlib.Core.Logic.{_≢_}
 use mathlib.Core.Path.{_≡_, refl, sym, ap, _∙_, subst}
 use native.Mathlib.Nat.{one-mul, div-lt-iff-lt-mul}
 use native.Mathlib.Numerals.{add-one}
@@ -16,13 +16,11 @@ use Rattle.fields.specs.Fields.{partOf}
 use Rattle.fields.specs.declared.Part as code
 use Rattle.fields.specs.declared.Part.the-variants.{Answer, Gap}
 use Rattle.model.proofs.FirstChecks.{runs-length}
-use Rattle.model.proofs.From.{Rise, from, rise-from, from-mem, mem-from, rise-least, head-bin, head-below-mem, head-mem}
-use Rattle.model.proofs.Tests.{lt-or-le, or-false}
+use Rattle.model.proofs.Tests.{or-false}
 use Rattle.model.specs.Certificate.{firstOf, lastOf}
 use Rattle.model.specs.Refusals.{_then_, refuseIf, misplaced, misnamed, anyContradicts, checkPart}
 use Rattle.model.specs.Runs.{pastBin, runs}
-use Rattle.model.specs.Walk.{headOf}
-use Rattle.checker.specs.Cursors.{binsOf, Cursors, claim, needed, numbered, Tested, PartChecked, answersIn}
+use Rattle.checker.specs.Cursors.{Cursors, claim, needed, numbered, Tested, PartChecked, answersIn}
 
 pub misnames-few : (b : Bool) (x y few : ℕ) → b ≡ true → x ≡ y → ltb x few ≡ (not b || ltb y few)
 misnames-few b x y few e h = rw (e, h)
@@ -37,17 +35,6 @@ named-below m k c b e h =
     let i = div-lt-iff-lt-mul {x = m} {y = 1} (pow-pos k) .0 (omega arith) in
     omega (arith, one-mul (2 ^ k))
 
--- the first number from a later bin on is not below the one from an earlier bin on
-head-later : (a b : ℕ) (s : List ℕ) → a ≤ b → Rise 0 s → headOf (from a s) ≤ headOf (from b s)
-head-later a b s h r =
-    ⊎-elim
-    (λ (q : headOf (from b s) < pastBin).
-    let m = head-mem (from b s) q in
-    let l = rise-least (rise-from b s r) m in
-    head-below-mem (rise-from a s r) (mem-from a s (omega arith) (from-mem b s m)))
-    (λ (q : pastBin ≤ headOf (from b s)). let k = head-bin (rise-from a s r) in omega arith)
-    (lt-or-le (headOf (from b s)) pastBin)
-
 pub weaken : (numbers ends cursors : List ℕ) (a b : ℕ) → a ≤ b → Cursors numbers ends cursors a → Cursors numbers ends cursors b
 weaken numbers ends cursors a b h c =
     record {
@@ -58,7 +45,7 @@ weaken numbers ends cursors a b h c =
       lengths = c .lengths;
       before = c .before;
       same = λ i l v q. c .same i l v (omega arith);
-      ahead = λ i l. let g = c .ahead i l in let m = head-later a b (binsOf numbers ends i) h (c .risen i l) in omega arith;
+      exact = c .exact;
     }
 
 first-is : (held : Bool) (f l m : ℕ) → firstOf (claim held f l m) ≡ f

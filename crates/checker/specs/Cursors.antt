@@ -3,6 +3,7 @@ use Prim.Native.Nat.{ℕ, zero, suc, _+_, _-_, _*_, _/_, _%_, _≤_, _<_}
 use mathlib.Core.Bool.{Bool, true, false, not}
 use mathlib.Core.List.{List, [], _∷_}
 use mathlib.Core.Path.{_≡_}
+use lib.Bits.{bitAnd}
 use lib.Dec.{leb, eqb}
 use lib.ListN.{length, getD}
 use Rattle.model.proofs.From.{Rise, from}
@@ -32,8 +33,8 @@ placeOf c = c % 2097152
 unfoldable pub binOf : ℕ → ℕ
 binOf c = c / 2097152
 
--- Runs that rise, one after another, and for each a cursor in it: from its place on a run has the same numbers from any bin not below b on, and its first
--- number from b on is not below the cursor's bin.
+-- Runs that rise, one after another, and for each a cursor in it: from its place on a run has the same numbers from any bin not below b on. The cursor's bin
+-- is the number at its place, or at the run's end the number after the last bin.
 pub record Cursors (numbers ends cursors : List ℕ) (b : ℕ) : Type 0 where
   pub few : length ends ≤ 64
   pub short : length numbers ≤ 1048576
@@ -43,17 +44,17 @@ pub record Cursors (numbers ends cursors : List ℕ) (b : ℕ) : Type 0 where
   pub before : (i : ℕ) → i < length ends → placeOf (getD cursors i 0) ≤ getD ends i 0
   pub same : (i : ℕ) → i < length ends → (v : ℕ) → b ≤ v
       → from v (binsOf numbers ends i) ≡ from v (slice numbers (placeOf (getD cursors i 0)) (getD ends i 0))
-  pub ahead : (i : ℕ) → i < length ends → binOf (getD cursors i 0) ≤ headIn numbers ends i b
+  pub exact : (i : ℕ) → i < length ends → binOf (getD cursors i 0) ≡ headOf (slice numbers (placeOf (getD cursors i 0)) (getD ends i 0))
 
 -- the mask of the runs whose cursor's bin is not above l
 unfoldable pub reachedOf : ℕ → List ℕ → ℕ
 reachedOf l [] = 0
 reachedOf l (c ∷ cursors) = reachedOf l cursors * 2 + one (leb (binOf c) l)
 
--- the runs that may contradict an answer that names the runs of m, or a gap up to l
+-- of the runs of m those that may contradict an answer, or else a gap up to l
 unfoldable pub toScan : Bool → ℕ → ℕ → List ℕ → ℕ
 toScan true l m cursors = m
-toScan false l m cursors = reachedOf l cursors
+toScan false l m cursors = bitAnd (reachedOf l cursors) m
 
 -- A run whose first number from f on is h contradicts the answer f, or the gap from f to l.
 unfoldable pub clash : Bool → ℕ → ℕ → ℕ → Bool

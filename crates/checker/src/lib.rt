@@ -34,7 +34,8 @@ fn long(x: u32) -> u64
     x as u64
 }
 
-// A cursor of a run: a bin × 2097152 + a place. The run has no number that is still uncovered before the place, and none below the bin.
+// A cursor of a run: a bin × 2097152 + a place. The run has no number that is still uncovered before the place, and the bin is the number at the place, or
+// the number after the last bin at the run's end.
 fn cursor_at(bin: u64, place: usize) -> u64
     requires { ⌜ (bin ≤ 4294967296) × (place < 2097152) ⌝ }
     ensures { λ r. ⌜ (placeOf r ≡ place) × (binOf r ≡ bin) ⌝ }
@@ -46,6 +47,12 @@ fn place_of(cursor: u64) -> usize
     ensures { λ r. ⌜ r ≡ placeOf cursor ⌝ }
 {
     (cursor % 2097152) as usize
+}
+
+fn bin_of(cursor: u64) -> u64
+    ensures { λ r. ⌜ r ≡ binOf cursor ⌝ }
+{
+    cursor / 2097152
 }
 
 fn one_if_below(x: u64, limit: u64) -> u64
@@ -70,7 +77,7 @@ fn reached(cursors: &[u64], last: u32) -> u64
     mask
 }
 
-// The runs to look at: those that an answer names, and for a gap those that may have a number up to its last bin.
+// The runs to take up: those that an answer names, and those that a gap names and that may have a number up to its last bin.
 fn to_scan(cursors: &[u64], last: u32, mask: u64, held: bool) -> u64
     requires { ⌜ length (now cursors) ≤ 64 ⌝ }
     ensures { λ r. ⌜ r ≡ toScan held last mask (now (cursors .entry)) ⌝ }
@@ -78,7 +85,7 @@ fn to_scan(cursors: &[u64], last: u32, mask: u64, held: bool) -> u64
     if held {
         return mask;
     }
-    reached(cursors, last)
+    reached(cursors, last) & mask
 }
 
 // The number at a place of a run that ends at `end`, or the number after the last bin at its end.
@@ -103,7 +110,7 @@ fn clashes(x: u64, first: u32, last: u32, held: bool) -> bool
 }
 
 // Whether a run that the mask names contradicts an answer or a gap. A run is scanned from its cursor on to its first number from `first` on. The cursor
-// stays there, and never goes back.
+// stays there, and never goes back. The number at the cursor is in the cursor, so a number is read only after the one before it is passed.
 fn contradicted(
     numbers: &[u32],
     ends: &[u32],
@@ -120,23 +127,22 @@ fn contradicted(
     let mut rest = to_scan(cursors, last, mask, held);
     'runs: while rest != 0 {
         let run = bits::lowest_run(rest);
-        if bits::names_run(mask, run) {
-            let i = wide(run);
-            let end = wide(ends[i]);
-            let mut j = place_of(cursors[i]);
-            loop {
-                let x = number_at(numbers, j, end);
-                if first as u64 <= x {
-                    if clashes(x, first, last, held) {
-                        break 'runs;
-                    }
-                    cursors[i] = cursor_at(x, j);
-                    break;
+        let i = wide(run);
+        let end = wide(ends[i]);
+        let mut j = place_of(cursors[i]);
+        let mut x = bin_of(cursors[i]);
+        loop {
+            if first as u64 <= x {
+                if clashes(x, first, last, held) {
+                    break 'runs;
                 }
-                j += 1;
+                cursors[i] = cursor_at(x, j);
+                break;
             }
+            j += 1;
+            x = number_at(numbers, j, end);
         }
-        rest = bits::without_run(rest, run);
+        rest = bits::without_lowest(rest);
     }
     rest != 0
 }
@@ -291,11 +297,12 @@ fn begin(numbers: &[u32], ends: &[u32], cursors: &mut [u64])
     requires { ⌜ Begins (now numbers) (now ends) (now cursors) ⌝ }
     ensures { λ _. ⌜ Cursors (now (numbers .entry)) (now (ends .entry)) (now (cursors .exit)) 0 ⌝ }
 {
-    let mut start: u32 = 0;
+    let mut start: usize = 0;
     let mut i: usize = 0;
     while i < ends.len() {
-        cursors[i] = long(start);
-        start = ends[i];
+        let end = wide(ends[i]);
+        cursors[i] = cursor_at(number_at(numbers, start, end), start);
+        start = end;
         i += 1;
     }
 }
@@ -316,7 +323,8 @@ fn check_all(
 }
 
 // Whether a certificate, whoever wrote it, is true of the lists and the threshold: it covers all bins in order, and each part is true of the runs that
-// it names. Each number is passed at most once, and for each part each run is looked at at most twice.
+// it names. After the first checks each number is read at most once, and for each part each run's cursor is compared at most once: at most numbers + parts ×
+// runs steps. (A run that a gap reaches is taken up again only to pass a number, or because it contradicts.)
 pub fn check(numbers: &[u32], ends: &[u32], threshold: u32, certificate: &[u8]) -> Verdict
     ensures verdict { λ r. ⌜ verdictIs r ≡ check (now (numbers .entry)) (now (ends .entry)) threshold (now (certificate .entry)) ⌝ }
     ensures accepted { λ r. ⌜ Accepted (now (numbers .entry)) (now (ends .entry)) threshold (now (certificate .entry)) (verdictIs r) ⌝ }

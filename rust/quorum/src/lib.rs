@@ -172,7 +172,7 @@ pub fn query(
 /// # Cost
 ///
 /// One pass over `numbers` for the first checks, then at most one more and
-/// 2 × parts × runs steps.
+/// parts × runs steps.
 ///
 /// # Example
 ///

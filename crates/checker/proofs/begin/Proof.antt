@@ -1,16 +1,16 @@
--- `begin` puts each cursor at its run. The invariant is `Placed`; the measure is the number of runs left. Assumes nothing.
+-- `begin` puts each cursor at its run's first number. The invariant is `Placed`; the measure is the number of runs left. Assumes nothing.
 use Prim.Native.Nat.{_-_}
 use lib.ListN.{length}
 use mathlib.Core.Path.{_≡_, sym, _∙_}
 use native.Mathlib.Omega.{arith}
-use Rattle.checker.proofs.Placing.{Placed, placed-none, placed-on, placed-all}
+use Rattle.checker.proofs.Placing.{Placed, placed-none, start-inside, start-fits, placed-on, placed-all}
 use borrow.Author.Needs.{needs}
 use Rattle.checker.proofs.begin.Statement.{statement}
 use Rattle.checker.proofs.begin.Tie as tie
 
 abbrev Inv-loop : tie.InvT-loop
 Inv-loop numbers ends cursors₀ start₀ i₀ cursors start i =
-    Placed ends cursors start i × (length cursors₀ ≡ length ends)
+    Placed numbers ends cursors start i × (length cursors₀ ≡ length ends)
 
 abbrev μ-loop : tie.MeasureT-loop
 μ-loop numbers ends cursors₀ start₀ i₀ cursors start i = length ends - i
@@ -18,24 +18,36 @@ abbrev μ-loop : tie.MeasureT-loop
 loop-holds : tie.Need-loop-holds Inv-loop μ-loop
 loop-holds c =
     let s = c .before .before .before in
-    (placed-none (s .args .ends .now) (s .args .cursors .now) (s .pre .lengths), s .pre .lengths)
+    (placed-none (s .args .numbers .now) (s .args .ends .now) (s .args .cursors .now) (s .pre .lengths), s .pre .lengths)
 
-long-requires : tie.Need-long-requires Inv-loop μ-loop
-long-requires c κs = search needs
+mul-wide : tie.Need-mul-wide Inv-loop μ-loop
+mul-wide c = search needs
+
+shared-slice-read-wide : tie.Need-shared-slice-read-wide Inv-loop μ-loop
+shared-slice-read-wide c = search needs
+
+wide-requires : tie.Need-wide-requires Inv-loop μ-loop
+wide-requires c κs = search needs
+
+number-at-requires : tie.Need-number-at-requires Inv-loop μ-loop
+number-at-requires c κs =
+    let t = c .before .before in
+    let s = start-inside (t .before .before .before .before .before .pre) (t .before .loop .inv .0) (t .loop-test .taken) (c .wide .ensures) in
+    (omega (arith, s .0), s .1)
+
+cursor-at-requires : tie.Need-cursor-at-requires Inv-loop μ-loop
+cursor-at-requires c κs =
+    let t = c .before .before .before in
+    start-fits (t .before .before .before .before .before .pre) (t .before .loop .inv .0) (t .loop-test .taken) (c .before .wide .ensures)
+    (c .number-at .ensures)
 
 mul-cursors : tie.Need-mul-cursors Inv-loop μ-loop
 mul-cursors c = search needs
 
 slice-write-cursors : tie.Need-slice-write-cursors Inv-loop μ-loop
 slice-write-cursors c =
-    let e = c .before .before .loop .inv .0 .lengths in
+    let e = c .before .before .before .before .before .loop .inv .0 .lengths in
     omega (arith, e)
-
-mul-start : tie.Need-mul-start Inv-loop μ-loop
-mul-start c = search needs
-
-shared-slice-read-start : tie.Need-shared-slice-read-start Inv-loop μ-loop
-shared-slice-read-start c = search needs
 
 add-i : tie.Need-add-i Inv-loop μ-loop
 add-i c = search needs
@@ -45,19 +57,19 @@ loop-less c = search needs
 
 loop-again : tie.Need-loop-again Inv-loop μ-loop
 loop-again c =
-    let a = c .before .before .before .before .before .before .before .args in
-    let l = c .before .before .before .loop in
-    (placed-on (a .ends .now) (l .cursors) (l .start) (l .i) (c .before .long .result) (omega arith) (c .before .long .ensures) (l .inv .0), l .inv .1)
+    let n = c .before in
+    let t = n .before .before .before in
+    let l = t .before .loop in (
+      placed-on (t .before .before .before .before .before .pre) (l .inv .0) (t .loop-test .taken) (n .before .wide .ensures) (n .number-at .ensures)
+          (c .cursor-at .result) (c .cursor-at .ensures),
+      l .inv .1,
+    )
 
 same-length : tie.Need-same-length Inv-loop μ-loop
 same-length c = c .before .loop .inv .0 .lengths ∙ sym (c .before .loop .inv .1)
 
 returns : tie.Need-returns Inv-loop μ-loop
-returns c =
-    let s = c .before .before .before .before .before in
-    let a = s .args in
-    let l = c .before .loop in
-    placed-all (a .numbers .now) (a .ends .now) (a .cursors .now) (l .cursors) (l .start) (l .i) (s .pre) (omega arith) (l .inv .0)
+returns c = placed-all (c .before .before .before .before .before .pre) (c .before .loop .inv .0) (c .loop-test .left)
 
 pub begin-spec : {M : Type 1} → statement M
 begin-spec =
@@ -66,11 +78,13 @@ begin-spec =
     Inv-loop
     μ-loop
     loop-holds
-    long-requires
+    mul-wide
+    shared-slice-read-wide
+    wide-requires
+    number-at-requires
+    cursor-at-requires
     mul-cursors
     slice-write-cursors
-    mul-start
-    shared-slice-read-start
     add-i
     loop-less
     loop-again

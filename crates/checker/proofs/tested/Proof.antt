@@ -11,7 +11,7 @@ returns : tie.Need-returns
 returns c =
     let s = c .before .before .before .before in
     let a = s .args in
-    other-first (a .numbers .now) (a .ends .now) (a .bin) (a .held) (a .first) (a .last) (a .mask) (a .few) _ (s .pre .1) (c .if1 .taken)
+    other-first (a .numbers .now) (a .ends .now) (a .bin) (a .held) (a .first) (a .last) (a .mask) (a .few) _ (s .pre .1) (omega (arith, c .if1 .taken))
 
 returns-2 : tie.Need-returns-2
 returns-2 c =
@@ -20,7 +20,9 @@ returns-2 c =
     other-last (a .numbers .now) (a .ends .now) (a .bin) (a .held) (a .first) (a .last) (a .mask) (a .few) _ (s .pre .1) (c .before .if1 .left) (c .if2 .taken)
 
 misnames-requires : tie.Need-misnames-requires
-misnames-requires c κs = c .before .before .before .before .before .pre .0 .few
+misnames-requires c κs =
+    let f = c .before .before .before .before .before .pre .0 .few in
+    omega (arith, f)
 
 returns-3 : tie.Need-returns-3
 returns-3 c =
