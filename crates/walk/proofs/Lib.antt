@@ -1,9 +1,8 @@
+pub mod Anew
 pub mod Beginning
 pub mod Going
 pub mod Moving
-pub mod Placing
 pub mod Putting
-pub mod Ranking
 pub mod Runs
 pub mod Searches
 pub mod Steps

@@ -1,3 +1,3 @@
+pub mod Anew
 pub mod Moves
-pub mod Ranks
 pub mod State
