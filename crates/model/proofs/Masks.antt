@@ -11,7 +11,7 @@ use mathlib.Core.Bool.{Bool, true, false}
 use mathlib.Core.List.{List, [], _∷_, List·Memᴰ, List·Memᴰ·head, List·Memᴰ·tail, List·Memᴰ·not-nil, List·Memᴰ·cases-cons}
 use mathlib.Core.Logic.{_⊎_, inl, inr, ⊎-elim, _≢_}
 use mathlib.Core.Path.{_≡_, refl, sym, ap, _∙_, subst}
-use native.Mathlib.Nat.{div-eq-of-lt, div-eq-of-lt-le, zero-div, div-lt-iff-lt-mul, div-mul-le-self, mod-lt, one-mul, mul-div-cancel}
+use native.Mathlib.Nat.{zero-add, div-eq-of-lt, div-eq-of-lt-le, zero-div, div-lt-iff-lt-mul, div-mul-le-self, mod-lt, one-mul, mul-div-cancel}
 use native.Mathlib.Omega.{arith}
 use Rattle.model.specs.Runs.{Run, total, one, count, mask, bit, names}
 use Rattle.model.proofs.Count.{count-eq, total-cons, count-cons}
@@ -209,3 +209,11 @@ mask-all {a} (r ∷ rs) l =
     let e : suc a + length rs ≡ a + suc (length rs) = omega arith in
     let f = ap (λ x. 2 ^ x) (label-first l) in
     omega (arith, ap (λ x. 2 ^ x) e)
+
+pub all-named : (rs : List Run) → Labelled 0 rs → (r : Run) → List·Memᴰ r rs → names (2 ^ length rs - 1) r ≡ true
+unfolding every
+all-named rs l r m =
+    let a = mask-all rs l in
+    let e = ap (λ x. 2 ^ x) (zero-add (length rs)) in
+    let f : 2 ^ length rs - 1 ≡ mask every rs = omega arith in
+    ap (λ (x : ℕ). names x r) f ∙ names-mask every 0 rs l r m
