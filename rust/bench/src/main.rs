@@ -88,8 +88,17 @@ fn main() -> ExitCode {
         options.repetitions
     );
     println!(
-        "{:<16} {:>3} {:>3} {:>9} {:>10} {:>13} {:>9} {:>9} {:>9}",
-        "case", "k", "t", "parts", "ns/number", "lib/reference", "lib/same", "lib/heap", "lib/sort"
+        "{:<16} {:>3} {:>3} {:>9} {:>10} {:>13} {:>9} {:>9} {:>9} {:>15}",
+        "case",
+        "k",
+        "t",
+        "parts",
+        "ns/number",
+        "lib/reference",
+        "lib/same",
+        "lib/heap",
+        "lib/sort",
+        "keys/(k log k)"
     );
     for Case { name, runs, input } in CASES {
         for &k in runs {
@@ -106,17 +115,22 @@ fn main() -> ExitCode {
                 let library = times.library.as_secs_f64();
                 let ratio = |other: Duration| library / other.as_secs_f64();
                 println!(
-                    "{name:<16} {k:>3} {t:>3} {:>9} {:>10.2} {:>13.2} {:>9.2} {:>9.2} {:>9.2}",
+                    "{name:<16} {k:>3} {t:>3} {:>9} {:>10.2} {:>13.2} {:>9.2} {:>9.2} {:>9.2} {:>15.2}",
                     times.parts,
                     library * 1e9 / NUMBERS as f64,
                     ratio(times.reference),
                     ratio(times.same),
                     ratio(times.heap),
-                    ratio(times.sort)
+                    ratio(times.sort),
+                    times.compared / (k as f64 * (k as f64).log2())
                 );
             }
         }
     }
+    println!(
+        "keys/(k log k): the mean number of comparisons of keys in a round, counted in the \
+         library's own way in Rust"
+    );
     checking::report(&options.only, options.repetitions);
     println!(
         "All buffers were allocated and written once before timing and not cleared between \
@@ -133,6 +147,8 @@ struct Times {
     same: Duration,
     heap: Duration,
     sort: Duration,
+    /// Comparisons of keys in a round, the mean.
+    compared: f64,
 }
 
 /// What the five ways write to: large enough for every case.
@@ -194,7 +210,7 @@ impl Buffers {
             times[1].push(time);
 
             let (time, same) = timed(numbers, || {
-                ordered::query(numbers, ends, threshold, same_answers, same_bytes)
+                ordered::query(numbers, ends, threshold, same_answers, same_bytes, &mut ())
             });
             let expected = ordered::Counts {
                 answers: library.answers,
@@ -228,6 +244,15 @@ impl Buffers {
         assert!(answers == &sort_answers[..counts.answers]);
         assert!(library_bytes[..counts.bytes] == reference_bytes[..counts.bytes]);
         assert!(library_bytes[..counts.bytes] == same_bytes[..counts.bytes]);
+        let mut comparisons = ordered::Comparisons::default();
+        ordered::query(
+            numbers,
+            ends,
+            threshold,
+            same_answers,
+            same_bytes,
+            &mut comparisons,
+        );
         let [library, reference, same, heap, sort] = times.map(median);
         Times {
             parts: counts.parts,
@@ -236,6 +261,7 @@ impl Buffers {
             same,
             heap,
             sort,
+            compared: comparisons.keys as f64 / comparisons.rounds as f64,
         }
     }
 }
