@@ -20,6 +20,20 @@ pub bin-fits : (x : ℕ) → x < 4294967296 → x < pastBin
 unfolding pastBin
 bin-fits x h = h
 
+-- cursors that serve the bins from a on serve those from a later one on
+pub weaken : (numbers ends cursors : List ℕ) (a b : ℕ) → a ≤ b → Cursors numbers ends cursors a → Cursors numbers ends cursors b
+weaken numbers ends cursors a b h c =
+    record {
+      few = c .few;
+      short = c .short;
+      inside = c .inside;
+      risen = c .risen;
+      lengths = c .lengths;
+      before = c .before;
+      same = λ i l v q. c .same i l v (omega arith);
+      exact = c .exact;
+    }
+
 -- ---- the number at a place
 
 pub number-there : (numbers : List ℕ) (j end : ℕ) → j < end → end ≤ length numbers → getD numbers j 0 ≡ headOf (slice numbers j end)
@@ -51,9 +65,14 @@ pub record Here (numbers ends : List ℕ) (i end first j x : ℕ) : Type 0 where
   pub number : x ≡ headOf (slice numbers j end)
   pub same : (v : ℕ) → first ≤ v → from v (binsOf numbers ends i) ≡ from v (slice numbers j end)
 
-pub here-start : (numbers ends cursors : List ℕ) (i end first j x : ℕ) → i < length ends → Cursors numbers ends cursors first → end ≡ getD ends i 0
-    → j ≡ placeOf (getD cursors i 0) → x ≡ binOf (getD cursors i 0) → Here numbers ends i end first j x
-here-start numbers ends cursors i end first j x l c ee ej ex =
+-- the numbers before run i's cursor are below b
+abbrev pub Behind : (numbers ends cursors : List ℕ) (i b : ℕ) → Type 0
+Behind numbers ends cursors i b = (v : ℕ) → b ≤ v → from v (binsOf numbers ends i) ≡ from v (slice numbers (placeOf (getD cursors i 0)) (getD ends i 0))
+
+pub here-start : (numbers ends cursors : List ℕ) (i end first j x b : ℕ) → i < length ends → Cursors numbers ends cursors b
+    → Behind numbers ends cursors i first → end ≡ getD ends i 0 → j ≡ placeOf (getD cursors i 0) → x ≡ binOf (getD cursors i 0)
+    → Here numbers ends i end first j x
+here-start numbers ends cursors i end first j x a l c p ee ej ex =
     let b = c .before i l in
     let d = c .inside i l in
     record {
@@ -61,15 +80,15 @@ here-start numbers ends cursors i end first j x l c ee ej ex =
       inside = omega arith;
       ending = ee;
       number = ex ∙ (c .exact i l ∙ (λ s. headOf (slice numbers (sym ej s) (sym ee s))));
-      same = λ v h. c .same i l v h ∙ (λ s. from v (slice numbers (sym ej s) (sym ee s)));
+      same = λ v h. p v h ∙ (λ s. from v (slice numbers (sym ej s) (sym ee s)));
     }
 
-not-below : (a b : ℕ) → a ≡ 4294967296 → a < b → b < pastBin → ⊥
+not-below : (a b : ℕ) → a ≡ 4294967296 → a < b → b ≤ pastBin → ⊥
 unfolding pastBin
 not-below a b e h k = omega arith
 
 module _ (numbers ends : List ℕ) (i end first j x : ℕ) (h : Here numbers ends i end first j x) where
-  pub here-more : x < first → first < pastBin → j < end
+  pub here-more : x < first → first ≤ pastBin → j < end
   here-more l k =
       ⊎-elim
       (λ (q : j < end). q)
@@ -80,7 +99,7 @@ module _ (numbers ends : List ℕ) (i end first j x : ℕ) (h : Here numbers end
       absurd (not-below x first (h .number ∙ sym z) l k))
       (lt-or-le j end)
 
-  pub here-on : x < first → first < pastBin → (x′ : ℕ) → x′ ≡ headOf (slice numbers (j + 1) end) → Here numbers ends i end first (j + 1) x′
+  pub here-on : x < first → first ≤ pastBin → (x′ : ℕ) → x′ ≡ headOf (slice numbers (j + 1) end) → Here numbers ends i end first (j + 1) x′
   here-on l k x′ e =
       let m = here-more l k in
       let n = h .number in
@@ -122,16 +141,16 @@ ahead numbers ends cursors i first l c k =
     ⊎-elim
     (λ (q : binOf w < first). let m = head-least (rise-from first (binsOf numbers ends i) (c .risen i l)) (omega arith) in omega arith)
     (λ (q : first ≤ binOf w).
-    let h = here-start numbers ends cursors i (getD ends i 0) first (placeOf w) (binOf w) l c refl refl refl in
+    let h = here-start numbers ends cursors i (getD ends i 0) first (placeOf w) (binOf w) first l c (c .same i l) refl refl refl in
     let e = here-head numbers ends i (getD ends i 0) first (placeOf w) (binOf w) h q in
     omega arith)
     (lt-or-le (binOf w) first)
 
 -- ---- a cursor put where the scan stopped
 
-module _ (numbers ends cursors : List ℕ) (i end first j x w : ℕ) (l : i < length ends) (c : Cursors numbers ends cursors first)
-    (h : Here numbers ends i end first j x) (ew : (placeOf w ≡ j) × (binOf w ≡ x)) where
-  pub cursors-on : (cursors′ : List ℕ) → cursors′ ≡ set cursors i w → Cursors numbers ends cursors′ first
+module _ (numbers ends cursors : List ℕ) (i end first j x w b : ℕ) (l : i < length ends) (c : Cursors numbers ends cursors b)
+    (h : Here numbers ends i end first j x) (f : first ≤ b) (ew : (placeOf w ≡ j) × (binOf w ≡ x)) where
+  pub cursors-on : (cursors′ : List ℕ) → cursors′ ≡ set cursors i w → Cursors numbers ends cursors′ b
   cursors-on cursors′ r =
       let z = c .lengths in
       let a : getD cursors′ i 0 ≡ w = ap (λ y. getD y i 0) r ∙ getD-set-same cursors i w 0 (omega arith) in
@@ -152,7 +171,7 @@ module _ (numbers ends cursors : List ℕ) (i end first j x w : ℕ) (l : i < le
             ⊎-elim
             (λ (q : n ≡ i).
             subst (λ y. from v (binsOf numbers ends y) ≡ from v (slice numbers (placeOf (getD cursors′ y 0)) (getD ends y 0))) (sym q)
-            (h .same v g ∙ (λ s. from v (slice numbers (sym (ap placeOf a ∙ ew .0) s) (h .ending s)))))
+            (h .same v (omega arith) ∙ (λ s. from v (slice numbers (sym (ap placeOf a ∙ ew .0) s) (h .ending s)))))
             (λ (q : n ≢ i). c .same n k v g ∙ (λ s. from v (slice numbers (placeOf (sym (other n q cursors′ r) s)) (getD ends n 0))))
             (eq-or-ne n i);
         exact = λ n k.

@@ -35,19 +35,6 @@ named-below m k c b e h =
     let i = div-lt-iff-lt-mul {x = m} {y = 1} (pow-pos k) .0 (omega arith) in
     omega (arith, one-mul (2 ^ k))
 
-pub weaken : (numbers ends cursors : List ℕ) (a b : ℕ) → a ≤ b → Cursors numbers ends cursors a → Cursors numbers ends cursors b
-weaken numbers ends cursors a b h c =
-    record {
-      few = c .few;
-      short = c .short;
-      inside = c .inside;
-      risen = c .risen;
-      lengths = c .lengths;
-      before = c .before;
-      same = λ i l v q. c .same i l v (omega arith);
-      exact = c .exact;
-    }
-
 first-is : (held : Bool) (f l m : ℕ) → firstOf (claim held f l m) ≡ f
 unfolding claim firstOf
 first-is true f l m = refl
@@ -101,13 +88,13 @@ module _ (numbers ends : List ℕ) (b : ℕ) (held : Bool) (f l m few : ℕ) (cu
       }
 
   pub passed-here : f ≡ b → f ≤ l → f < pastBin → (x : Bool) → x ≡ (not (eqb (m / 2 ^ length ends) 0) || ltb (ones m) few) → x ≡ false
-      → (y : Bool) → y ≡ anyContradicts (claim held f l m) (runs numbers ends) → y ≡ false → Cursors numbers ends cursors f
+      → (y : Bool) → y ≡ anyContradicts (claim held f l m) (runs numbers ends) → y ≡ false → Cursors numbers ends cursors (suc l)
       → Tested numbers ends b held f l m few cursors 0
   unfolding checkPart _then_ refuseIf numbered
   passed-here e h k x i j y u v c =
       record {
         refused-by = λ t at q. rw (placed e h k, named-is numbers ends held f l m few t q ∙ (sym i ∙ j), sym u ∙ v);
-        ready = λ z. weaken numbers ends cursors f (suc (lastOf (claim held f l m))) (omega arith) c;
+        ready = λ z. subst (λ x. Cursors numbers ends cursors (suc x)) (sym el) c;
       }
 
 -- ---- the code's parts

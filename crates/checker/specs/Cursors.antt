@@ -3,7 +3,6 @@ use Prim.Native.Nat.{ℕ, zero, suc, _+_, _-_, _*_, _/_, _%_, _≤_, _<_}
 use mathlib.Core.Bool.{Bool, true, false, not}
 use mathlib.Core.List.{List, [], _∷_}
 use mathlib.Core.Path.{_≡_}
-use lib.Bits.{bitAnd}
 use lib.Dec.{leb, eqb}
 use lib.ListN.{length, getD}
 use Rattle.model.proofs.From.{Rise, from}
@@ -51,10 +50,15 @@ unfoldable pub reachedOf : ℕ → List ℕ → ℕ
 reachedOf l [] = 0
 reachedOf l (c ∷ cursors) = reachedOf l cursors * 2 + one (leb (binOf c) l)
 
--- of the runs of m those that may contradict an answer, or else a gap up to l
+-- the runs to take up: those of m for an answer, and else those that a gap up to l reaches
 unfoldable pub toScan : Bool → ℕ → ℕ → List ℕ → ℕ
 toScan true l m cursors = m
-toScan false l m cursors = bitAnd (reachedOf l cursors) m
+toScan false l m cursors = reachedOf l cursors
+
+-- the bin from which on a run's numbers matter: f where a part from f to l names the run, and the one after l otherwise
+unfoldable pub scanFrom : Bool → ℕ → ℕ → ℕ
+scanFrom true f l = f
+scanFrom false f l = suc l
 
 -- A run whose first number from f on is h contradicts the answer f, or the gap from f to l.
 unfoldable pub clash : Bool → ℕ → ℕ → ℕ → Bool

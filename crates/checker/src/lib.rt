@@ -7,10 +7,10 @@ ghost use lib.Dec.{eqb, ltb};
 ghost use lib.ListN.{length};
 ghost use Rattle.model.specs.Certificate.{lastOf};
 ghost use Rattle.model.specs.Refusals.{anyContradicts, checkFrom, check};
-ghost use Rattle.model.specs.Runs.{one, slice, runs};
+ghost use Rattle.model.specs.Runs.{one, slice, runs, bit};
 ghost use Rattle.model.specs.Walk.{headOf};
 ghost use Rattle.fields.specs.Fields.{partOf};
-ghost use Rattle.checker.specs.Cursors.{placeOf, binOf, reachedOf, toScan, Cursors, clash, claim, Tested, PartChecked, answersIn, Begins};
+ghost use Rattle.checker.specs.Cursors.{placeOf, binOf, reachedOf, toScan, scanFrom, Cursors, clash, claim, Tested, PartChecked, answersIn, Begins};
 ghost use Rattle.checker.specs.Verdicts.{verdictIs, Accepted};
 use fields::Field;
 use fields::Part;
@@ -77,7 +77,7 @@ fn reached(cursors: &[u64], last: u32) -> u64
     mask
 }
 
-// The runs to take up: those that an answer names, and those that a gap names and that may have a number up to its last bin.
+// The runs to take up: those that an answer names, and those that may have an uncovered number up to a gap's last bin.
 fn to_scan(cursors: &[u64], last: u32, mask: u64, held: bool) -> u64
     requires { ⌜ length (now cursors) ≤ 64 ⌝ }
     ensures { λ r. ⌜ r ≡ toScan held last mask (now (cursors .entry)) ⌝ }
@@ -85,7 +85,7 @@ fn to_scan(cursors: &[u64], last: u32, mask: u64, held: bool) -> u64
     if held {
         return mask;
     }
-    reached(cursors, last) & mask
+    reached(cursors, last)
 }
 
 // The number at a place of a run that ends at `end`, or the number after the last bin at its end.
@@ -109,8 +109,20 @@ fn clashes(x: u64, first: u32, last: u32, held: bool) -> bool
     x <= last as u64
 }
 
-// Whether a run that the mask names contradicts an answer or a gap. A run is scanned from its cursor on to its first number from `first` on. The cursor
-// stays there, and never goes back. The number at the cursor is in the cursor, so a number is read only after the one before it is passed.
+// The bin from which on a run's numbers matter: the part's first where the mask names the run, and the one after its last otherwise.
+fn scan_from(mask: u64, run: u32, first: u32, last: u32) -> u64
+    requires { ⌜ run < 64 ⌝ }
+    ensures { λ r. ⌜ r ≡ scanFrom (eqb (bit mask run) 1) first last ⌝ }
+{
+    if bits::names_run(mask, run) {
+        return first as u64;
+    }
+    last as u64 + 1
+}
+
+// Whether a run that the mask names contradicts an answer or a gap. A run is scanned from its cursor on to its first number that matters. The cursor stays
+// there, and never goes back. The number at the cursor is in the cursor, so a number is read only after the one before it is passed. A run that a gap
+// reaches passes at least one number, or contradicts: one that it does not name is scanned past the gap, where it cannot contradict.
 fn contradicted(
     numbers: &[u32],
     ends: &[u32],
@@ -120,19 +132,20 @@ fn contradicted(
     mask: u64,
     held: bool,
 ) -> bool
-    requires { ⌜ Cursors (now numbers) (now ends) (now cursors) first × (mask < 2 ^ length (now ends)) ⌝ }
-    ensures { λ r. ⌜ (r ≡ anyContradicts (claim held first last mask) (runs (now (numbers .entry)) (now (ends .entry)))) × Cursors (now (numbers .entry)) (now (ends .entry)) (now (cursors .exit)) first ⌝ }
+    requires { ⌜ Cursors (now numbers) (now ends) (now cursors) first × (first ≤ last) × (mask < 2 ^ length (now ends)) ⌝ }
+    ensures { λ r. ⌜ (r ≡ anyContradicts (claim held first last mask) (runs (now (numbers .entry)) (now (ends .entry)))) × Cursors (now (numbers .entry)) (now (ends .entry)) (now (cursors .exit)) (suc last) ⌝ }
 {
     // the runs not known to agree
     let mut rest = to_scan(cursors, last, mask, held);
     'runs: while rest != 0 {
         let run = bits::lowest_run(rest);
+        let from = scan_from(mask, run, first, last);
         let i = wide(run);
         let end = wide(ends[i]);
         let mut j = place_of(cursors[i]);
         let mut x = bin_of(cursors[i]);
         loop {
-            if first as u64 <= x {
+            if from <= x {
                 if clashes(x, first, last, held) {
                     break 'runs;
                 }
@@ -324,7 +337,7 @@ fn check_all(
 
 // Whether a certificate, whoever wrote it, is true of the lists and the threshold: it covers all bins in order, and each part is true of the runs that
 // it names. After the first checks each number is read at most once, and for each part each run's cursor is compared at most once: at most numbers + parts ×
-// runs steps. (A run that a gap reaches is taken up again only to pass a number, or because it contradicts.)
+// runs steps. (A run that a gap reaches is taken up only to pass at least one number, or because it contradicts.)
 pub fn check(numbers: &[u32], ends: &[u32], threshold: u32, certificate: &[u8]) -> Verdict
     ensures verdict { λ r. ⌜ verdictIs r ≡ check (now (numbers .entry)) (now (ends .entry)) threshold (now (certificate .entry)) ⌝ }
     ensures accepted { λ r. ⌜ Accepted (now (numbers .entry)) (now (ends .entry)) threshold (now (certificate .entry)) (verdictIs r) ⌝ }

@@ -1,8 +1,8 @@
 -- `tested` makes the tests of a part in order. Assumes nothing.
 use lib.ListN.{length}
 use native.Mathlib.Omega.{arith}
-use Rattle.checker.proofs.Moving.{bin-fits}
-use Rattle.checker.proofs.Testing.{named-below, weaken, other-first, other-last, misnamed-here, contradicted-here, passed-here}
+use Rattle.checker.proofs.Moving.{bin-fits, weaken}
+use Rattle.checker.proofs.Testing.{named-below, other-first, other-last, misnamed-here, contradicted-here, passed-here}
 use borrow.Author.Needs.{needs}
 use Rattle.checker.proofs.tested.Statement.{statement}
 use Rattle.checker.proofs.tested.Tie as tie
@@ -38,6 +38,7 @@ contradicted-requires c κs =
     let e = c .before .before .before .before .if1 .left in
     let u = c .before .before .misnames in (
       weaken (a .numbers .now) (a .ends .now) (a .cursors .now) (a .bin) (a .first) (omega arith) (s .pre .0),
+      omega (arith, c .before .before .before .if2 .left),
       named-below (a .mask) (length (a .ends .now)) _ (u .result) (u .ensures) (c .before .if3 .left),
     )
 

@@ -1,4 +1,4 @@
--- `to_scan` takes the runs that a part names, of a gap only those reached. Assumes nothing.
+-- `to_scan` takes the runs that an answer names, or those that a gap reaches. Assumes nothing.
 use Rattle.checker.proofs.Reaching.{to-scan-held, to-scan-gap}
 use borrow.Author.Needs.{needs}
 use Rattle.checker.proofs.to_scan.Statement.{statement}
