@@ -1,24 +1,63 @@
-//! Two other ways to the answers. Neither checks its input, writes a
-//! certificate or counts probes.
+//! Other ways to the answers. None checks its input, writes a certificate or
+//! counts probes.
 
 use std::cmp::Reverse;
 use std::collections::binary_heap::{BinaryHeap, PeekMut};
 
-/// Writes the numbers that at least `threshold` runs hold, by a merge with the
-/// standard library's heap of the heads that goes through every number.
-/// Returns how many there are.
-pub fn heap_merge(numbers: &[u32], ends: &[u32], threshold: usize, answers: &mut [u32]) -> usize {
-    let mut starts = ends.iter().scan(0, |start, &end| {
+/// A head, its run and its place in the run.
+type Head = Reverse<(u32, u32, u32)>;
+
+fn runs_of<'a>(numbers: &'a [u32], ends: &[u32]) -> Vec<&'a [u32]> {
+    let runs = ends.iter().scan(0, |start, &end| {
         let run = *start..end as usize;
         *start = end as usize;
         Some(run)
     });
-    let runs: Vec<&[u32]> = starts.by_ref().map(|run| &numbers[run]).collect();
-    // A head, its run and its place in the run.
-    let heads = runs.iter().enumerate();
-    let mut heap: BinaryHeap<Reverse<(u32, u32, u32)>> = heads
-        .filter_map(|(i, run)| Some(Reverse((*run.first()?, i as u32, 0))))
-        .collect();
+    runs.map(|run| &numbers[run]).collect()
+}
+
+fn heads_of(runs: &[&[u32]]) -> BinaryHeap<Head> {
+    let runs = runs.iter().enumerate();
+    runs.filter_map(|(i, run)| Some(Reverse((*run.first()?, i as u32, 0))))
+        .collect()
+}
+
+/// Writes the numbers that at least `threshold` runs hold, by a merge with the
+/// standard library's heap of the heads that goes through every number: each
+/// head is taken out and the next one of its run put in. Returns how many there
+/// are.
+pub fn heap_merge(numbers: &[u32], ends: &[u32], threshold: usize, answers: &mut [u32]) -> usize {
+    let runs = runs_of(numbers, ends);
+    let mut heap = heads_of(&runs);
+    let mut written = 0;
+    let mut holding = 0;
+    while let Some(Reverse((v, i, place))) = heap.pop() {
+        holding += 1;
+        if let Some(&next) = runs[i as usize].get(place as usize + 1) {
+            heap.push(Reverse((next, i, place + 1)));
+        }
+        if heap.peek().is_some_and(|&Reverse((x, _, _))| x == v) {
+            continue;
+        }
+        if holding >= threshold {
+            answers[written] = v;
+            written += 1;
+        }
+        holding = 0;
+    }
+    written
+}
+
+/// The same with the next head put in the place of the one at the top, which
+/// costs little where the same run goes on.
+pub fn heap_merge_replacing(
+    numbers: &[u32],
+    ends: &[u32],
+    threshold: usize,
+    answers: &mut [u32],
+) -> usize {
+    let runs = runs_of(numbers, ends);
+    let mut heap = heads_of(&runs);
     let mut written = 0;
     while let Some(&Reverse((v, _, _))) = heap.peek() {
         let mut holding = 0;
@@ -82,7 +121,7 @@ mod tests {
     }
 
     #[test]
-    fn both_give_the_counted_answers() {
+    fn all_give_the_counted_answers() {
         let m = u32::MAX;
         let inputs: [(&[u32], &[u32]); 6] = [
             (&[], &[0]),
@@ -100,6 +139,8 @@ mod tests {
                 let expected = counted(numbers, threshold);
                 let mut answers = vec![3; numbers.len()];
                 let written = heap_merge(numbers, ends, threshold, &mut answers);
+                assert_eq!(answers[..written], expected);
+                let written = heap_merge_replacing(numbers, ends, threshold, &mut answers);
                 assert_eq!(answers[..written], expected);
                 let mut scratch = numbers.to_vec();
                 let written = sort_and_count(numbers, threshold, &mut scratch, &mut answers);

@@ -1,5 +1,5 @@
-//! Times the library on 1,048,576 numbers beside the reference walk, a heap
-//! merge with counting and a sort with counting, and a check of the walk's own
+//! Times the library on 1,048,576 numbers beside the reference walk, heap
+//! merges with counting and a sort with counting, and a check of the walk's own
 //! certificate beside the query.
 //!
 //!     cargo run --release -p bench -- [--only SUBSTRING] [--reps N]
@@ -83,12 +83,12 @@ fn main() -> ExitCode {
     };
     let mut buffers = Buffers::new();
     println!(
-        "{NUMBERS} numbers, medians of {} repetitions; the heap merge and the sort neither check \
+        "{NUMBERS} numbers, medians of {} repetitions; the heap merges and the sort neither check \
          their input nor write a certificate",
         options.repetitions
     );
     println!(
-        "{:<16} {:>3} {:>3} {:>9} {:>10} {:>13} {:>9} {:>9} {:>9} {:>15}",
+        "{:<16} {:>3} {:>3} {:>9} {:>10} {:>13} {:>9} {:>9} {:>9} {:>9} {:>15}",
         "case",
         "k",
         "t",
@@ -97,6 +97,7 @@ fn main() -> ExitCode {
         "lib/reference",
         "lib/same",
         "lib/heap",
+        "lib/top",
         "lib/sort",
         "keys/(k log k)"
     );
@@ -115,12 +116,13 @@ fn main() -> ExitCode {
                 let library = times.library.as_secs_f64();
                 let ratio = |other: Duration| library / other.as_secs_f64();
                 println!(
-                    "{name:<16} {k:>3} {t:>3} {:>9} {:>10.2} {:>13.2} {:>9.2} {:>9.2} {:>9.2} {:>15.2}",
+                    "{name:<16} {k:>3} {t:>3} {:>9} {:>10.2} {:>13.2} {:>9.2} {:>9.3} {:>9.3} {:>9.3} {:>15.2}",
                     times.parts,
                     library * 1e9 / NUMBERS as f64,
                     ratio(times.reference),
                     ratio(times.same),
                     ratio(times.heap),
+                    ratio(times.top),
                     ratio(times.sort),
                     times.compared / (k as f64 * (k as f64).log2())
                 );
@@ -146,14 +148,16 @@ struct Times {
     reference: Duration,
     same: Duration,
     heap: Duration,
+    /// The heap merge that replaces the head at the top.
+    top: Duration,
     sort: Duration,
     /// Comparisons of keys in a round, the mean.
     compared: f64,
 }
 
-/// What the five ways write to: large enough for every case.
+/// What the six ways write to: large enough for every case.
 struct Buffers {
-    answers: [Vec<u32>; 5],
+    answers: [Vec<u32>; 6],
     certificates: [Vec<u8>; 3],
     scratch: Vec<u32>,
 }
@@ -172,14 +176,14 @@ impl Buffers {
         }
     }
 
-    /// Runs all five in turn, `repetitions` times, and checks that they agree.
+    /// Runs all six in turn, `repetitions` times, and checks that they agree.
     fn measure(&mut self, input: &Input, threshold: usize, repetitions: usize) -> Times {
         let Input { numbers, ends } = input;
         let t = threshold as u32;
-        let [library_answers, reference_answers, same_answers, heap_answers, sort_answers] =
+        let [library_answers, reference_answers, same_answers, heap_answers, top_answers, sort_answers] =
             &mut self.answers;
         let [library_bytes, reference_bytes, same_bytes] = &mut self.certificates;
-        let mut times: [Vec<Duration>; 5] = Default::default();
+        let mut times: [Vec<Duration>; 6] = Default::default();
         let mut counts = None;
         for _ in 0..repetitions {
             let (time, outcome) = timed(numbers, || {
@@ -227,12 +231,18 @@ impl Buffers {
             assert_eq!(written, library.answers);
             times[3].push(time);
 
+            let (time, written) = timed(numbers, || {
+                baselines::heap_merge_replacing(numbers, ends, threshold, top_answers)
+            });
+            assert_eq!(written, library.answers);
+            times[4].push(time);
+
             let scratch = &mut self.scratch;
             let (time, written) = timed(numbers, || {
                 baselines::sort_and_count(numbers, threshold, scratch, sort_answers)
             });
             assert_eq!(written, library.answers);
-            times[4].push(time);
+            times[5].push(time);
 
             counts = Some(library);
         }
@@ -241,6 +251,7 @@ impl Buffers {
         assert!(answers == &reference_answers[..counts.answers]);
         assert!(answers == &same_answers[..counts.answers]);
         assert!(answers == &heap_answers[..counts.answers]);
+        assert!(answers == &top_answers[..counts.answers]);
         assert!(answers == &sort_answers[..counts.answers]);
         assert!(library_bytes[..counts.bytes] == reference_bytes[..counts.bytes]);
         assert!(library_bytes[..counts.bytes] == same_bytes[..counts.bytes]);
@@ -253,13 +264,14 @@ impl Buffers {
             same_bytes,
             &mut comparisons,
         );
-        let [library, reference, same, heap, sort] = times.map(median);
+        let [library, reference, same, heap, top, sort] = times.map(median);
         Times {
             parts: counts.parts,
             library,
             reference,
             same,
             heap,
+            top,
             sort,
             compared: comparisons.keys as f64 / comparisons.rounds as f64,
         }
