@@ -336,8 +336,8 @@ fn check_all(
 }
 
 // Whether a certificate, whoever wrote it, is true of the lists and the threshold: it covers all bins in order, and each part is true of the runs that
-// it names. After the first checks each number is read at most once, and for each part each run's cursor is compared at most once: at most numbers + parts ×
-// runs steps. (A run that a gap reaches is taken up only to pass at least one number, or because it contradicts.)
+// it names. After the first checks at most numbers + parts × runs steps: one for each run of each part, and one for each number passed, which is then read no
+// more.
 pub fn check(numbers: &[u32], ends: &[u32], threshold: u32, certificate: &[u8]) -> Verdict
     ensures verdict { λ r. ⌜ verdictIs r ≡ check (now (numbers .entry)) (now (ends .entry)) threshold (now (certificate .entry)) ⌝ }
     ensures accepted { λ r. ⌜ Accepted (now (numbers .entry)) (now (ends .entry)) threshold (now (certificate .entry)) (verdictIs r) ⌝ }
