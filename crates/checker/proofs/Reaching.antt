@@ -9,7 +9,6 @@ use mathlib.Core.Bool.{Bool, true, false}
 use mathlib.Core.List.{List, [], _∷_}
 use mathlib.Core.Logic.{⊎-elim, _≢_}
 use mathlib.Core.Path.{_≡_, refl, sym, ap, _∙_}
-use mir.Val.{boolByte}
 use native.Mathlib.Nat.{pow-suc}
 use native.Mathlib.Numerals.{add-one}
 use native.Mathlib.Omega.{arith}
@@ -36,14 +35,6 @@ place-is c = refl
 pub bin-is : (c : ℕ) → c / 2097152 ≡ binOf c
 unfolding binOf
 bin-is c = refl
-
-as-one : (b : Bool) → boolByte b ≡ one b
-unfolding one
-as-one true = refl
-as-one false = refl
-
-pub below-is : (x y : ℕ) → boolByte (ltb x y) ≡ one (ltb x y)
-below-is x y = as-one (ltb x y)
 
 -- a cursor's bin is not above l where the cursor is below the first one whose bin is
 pub bin-below : (c l m : ℕ) → m ≡ (l + 1) * 2097152 → one (ltb c m) ≡ one (leb (binOf c) l)

@@ -1,5 +1,6 @@
 -- `one_if_below` compares two numbers. Assumes nothing.
-use Rattle.checker.proofs.Reaching.{below-is}
+use lib.Dec.{ltb}
+use Rattle.model.proofs.Tests.{as-one}
 use borrow.Author.Needs.{needs}
 use Rattle.checker.proofs.one_if_below.Statement.{statement}
 use Rattle.checker.proofs.one_if_below.Tie as tie
@@ -8,7 +9,7 @@ cast-result : tie.Need-cast-result
 cast-result c = search needs
 
 returns : tie.Need-returns
-returns c = below-is (c .args .x) (c .args .limit)
+returns c = as-one (ltb (c .args .x) (c .args .limit))
 
 pub one-if-below-spec : {M : Type 1} → statement M
 one-if-below-spec = tie.close (tie.spec cast-result returns)
