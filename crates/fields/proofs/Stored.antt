@@ -40,13 +40,6 @@ module _ (l : List ℕ) (at : ℕ) (p : Part) where
       let n = part-size p in ap length (stored-fits h) ∙ placed-length (encodePart p) l at (omega arith))
       (lt-or-le (length l) (at + sizeOf p))
 
--- a part stored right after what was written at the front
-pub stored-over : (written l : List ℕ) (p : Part) → length written + sizeOf p ≤ length l
-    → stored (over written l) (length written) p ≡ over (written ++ encodePart p) l
-stored-over written l p h =
-    let n = over-length written l (omega arith) in
-    stored-fits (over written l) (length written) p (omega arith) ∙ placed-over written (encodePart p) l
-
 module _ (l : List ℕ) {l₁ l₂ : List ℕ} (at : ℕ) where
   pub answer-stored : {l₃ : List ℕ} (v m : ℕ) → l₁ ≡ placed l at (1 ∷ bytesOf 2 12) → l₂ ≡ placed l₁ (at + 3) (bytesOf 4 v)
       → l₃ ≡ placed l₂ (at + 7) (bytesOf 8 m) → at + 15 ≤ length l → l₃ ≡ stored l at (answer v m)

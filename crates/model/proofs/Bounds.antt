@@ -14,7 +14,7 @@ use native.Mathlib.Omega.{arith}
 use Rattle.model.specs.Compared.{partsOf, cost, probeIn, probesIn, probe, probesOf, digits, boundIn, bound}
 use Rattle.model.specs.Runs.{Run, lastBin, pastBin, total, one}
 use Rattle.model.specs.Walk.{Event, sought, doubled, halved, wrote, headOf, head, seek, searchIn, searches}
-use Rattle.model.proofs.Count.{total-map, total-zero, total-cons, total-add, total-eq, total-le}
+use Rattle.model.proofs.Count.{total-map, total-zero, total-add, total-eq, total-le}
 use Rattle.model.proofs.Digits.{digits-mono}
 use Rattle.model.proofs.Events.{cost-append, cost-replicate, cost-searches, parts-wrote, parts-round}
 use Rattle.model.proofs.From.{Rise, from, rise-from, from-length, head-nil, head-cons}

@@ -13,10 +13,6 @@ pub total-nil : (g : Run → ℕ) → total g [] ≡ 0
 unfolding total
 total-nil g = refl
 
-pub total-cons : (g : Run → ℕ) (r : Run) (rs : List Run) → total g (r ∷ rs) ≡ g r + total g rs
-unfolding total
-total-cons g r rs = refl
-
 pub total-le : (g h : Run → ℕ) (rs : List Run) → ((r : Run) → List·Memᴰ r rs → g r ≤ h r) → total g rs ≤ total h rs
 unfolding total
 total-le g h [] e = omega arith
@@ -50,10 +46,6 @@ total-zero g (r ∷ rs) e =
     let i = total-zero g rs (λ q m. e q (List·Memᴰ·tail m)) in
     let j = e r (List·Memᴰ·head refl) in
     omega arith
-
-pub count-cons : (p : Run → Bool) (r : Run) (rs : List Run) → count p (r ∷ rs) ≡ one (p r) + count p rs
-unfolding total count
-count-cons p r rs = refl
 
 pub count-eq : (p q : Run → Bool) (rs : List Run) → ((r : Run) → List·Memᴰ r rs → p r ≡ q r) → count p rs ≡ count q rs
 unfolding count

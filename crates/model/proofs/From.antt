@@ -18,10 +18,6 @@ pub data Rise : ℕ → List ℕ → Type 0 where
   rise-nil : {a : ℕ} → Rise a []
   rise-cons : {a x : ℕ} {s : List ℕ} → a ≤ x → x < pastBin → Rise (suc x) s → Rise a (x ∷ s)
 
-pub rise-weaken : {a b : ℕ} {s : List ℕ} → b ≤ a → Rise a s → Rise b s
-rise-weaken h rise-nil = rise-nil
-rise-weaken {b = b} h (rise-cons {x = x} l u r) = let m : b ≤ x = omega arith in rise-cons m u r
-
 pub rise-least : {a x : ℕ} {s : List ℕ} → Rise a s → List·Memᴰ x s → a ≤ x
 rise-least rise-nil m = absurd (List·Memᴰ·not-nil m)
 rise-least {x = y} (rise-cons l u r) m = ⊎-elim (λ e. omega arith) (λ n. let h = rise-least r n in omega arith) (List·Memᴰ·cases-cons m)

@@ -12,7 +12,7 @@ use native.Mathlib.Nat.{min-eq-left, min-eq-right, le-antisymm}
 use native.Mathlib.Omega.{arith}
 use Rattle.model.specs.Runs.{Run, pastBin, total, one, count}
 use Rattle.model.specs.Walk.{head, leastHead, tthHead}
-use Rattle.model.proofs.Count.{count-le, count-eq, count-some, count-cons}
+use Rattle.model.proofs.Count.{count-le, count-eq, count-some}
 use Rattle.model.proofs.Tests.{both, lt-or-le, eq-or-ne}
 
 -- the heads not above h, and those below h

@@ -14,7 +14,7 @@ use mathlib.Core.Path.{_≡_, refl, sym, ap, _∙_, subst}
 use native.Mathlib.Nat.{zero-add, div-eq-of-lt, div-eq-of-lt-le, zero-div, div-lt-iff-lt-mul, div-mul-le-self, mod-lt, one-mul, mul-div-cancel}
 use native.Mathlib.Omega.{arith}
 use Rattle.model.specs.Runs.{Run, total, one, count, mask, bit, names}
-use Rattle.model.proofs.Count.{count-eq, total-cons, count-cons}
+use Rattle.model.proofs.Count.{count-eq}
 use Rattle.model.proofs.Tests.{both, lt-or-le, eq-or-ne}
 
 -- the runs' labels are a, a + 1 and so on

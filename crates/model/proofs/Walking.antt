@@ -14,7 +14,7 @@ use Rattle.model.specs.Certificate.{Part, answer, gap}
 use Rattle.model.specs.Runs.{Run, lastBin, pastBin, count, mask}
 use Rattle.model.specs.Walk.{Event, wrote, headOf, head, tthHead, seek, searchIn, searches, searched, movedOn, settle, round, walk}
 use Rattle.model.proofs.Count.{count-le, count-eq}
-use Rattle.model.proofs.From.{Rise, rise-weaken, from, rise-from, from-from, from-all, from-nil, head-nil, head-cons, head-least, head-bin, from-past-head, from-other-head}
+use Rattle.model.proofs.From.{Rise, from, rise-from, from-from, from-all, from-nil, head-nil, head-cons, head-least, head-bin, from-past-head, from-other-head}
 use Rattle.model.proofs.Heads.{Heads, atMost, below, tth-past, tth-ge, tth-enough, tth-few}
 use Rattle.model.proofs.Searching.{sought-right}
 use Rattle.model.proofs.Tests.{both, lt-or-le, eq-or-ne}

@@ -11,7 +11,7 @@ use native.Mathlib.Omega.{arith}
 use Rattle.model.specs.Compared.{probesOf}
 use Rattle.model.specs.Runs.{Run, pastBin, mask, names}
 use Rattle.model.specs.Walk.{Event, head, tthHead, searches, searched, settle, round, walk}
-use Rattle.model.proofs.From.{Rise, rise-weaken, rise-from, head-bin}
+use Rattle.model.proofs.From.{Rise, rise-from, head-bin}
 use Rattle.model.proofs.Heads.{Heads, atMost, below, tth-enough, tth-ge}
 use Rattle.model.proofs.Tests.{lt-or-le}
 use Rattle.model.proofs.Walking.{equal, all-equal, map-mem, searched-bins}

@@ -13,7 +13,7 @@ use native.Mathlib.Omega.{arith}
 use Rattle.model.specs.Runs.{Run, lastBin, pastBin, total, count, mask, names}
 use Rattle.model.specs.Walk.{head, headOf, movedOn}
 use Rattle.model.proofs.Count.{total-eq, count-eq}
-use Rattle.model.proofs.From.{Rise, rise-weaken, from, from-past-head, from-other-head, rise-from, head-least}
+use Rattle.model.proofs.From.{Rise, from, from-past-head, from-other-head, rise-from, head-least}
 use Rattle.model.proofs.Heads.{below}
 use Rattle.model.proofs.Masks.{Labelled, mask-only}
 use Rattle.model.proofs.Tests.{both, lt-or-le, eq-or-ne}

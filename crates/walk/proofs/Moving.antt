@@ -10,7 +10,7 @@ use mathlib.Core.Path.{_≡_, refl, sym, ap, ap₂, _∙_, subst}
 use native.Mathlib.Omega.{arith}
 use Rattle.model.specs.Runs.{Run, pastBin, total, bit, names}
 use Rattle.model.specs.Walk.{head, headOf}
-use Rattle.model.proofs.Count.{total-map, total-eq, total-cons}
+use Rattle.model.proofs.Count.{total-map, total-eq}
 use Rattle.model.proofs.Masks.{Labelled, labelled-nil, labelled-cons, label-first, label-rest, label-least}
 use Rattle.model.proofs.Tests.{both, lt-or-le, eq-or-ne, true-false}
 use Rattle.order.proofs.Row.{sum-insert, ordered-insert}
