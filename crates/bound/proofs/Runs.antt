@@ -13,7 +13,6 @@ use Rattle.model.specs.Compared.{boundOf, boundIn, bound}
 use Rattle.bound.specs.Bound.{sumFrom, endChecks, probeBound}
 use Rattle.bound.proofs.Checks.{number-passed}
 use Rattle.model.proofs.FirstChecks.{first-passed, not-fallen, end-last}
-use Rattle.model.proofs.Tests.{lt-or-le}
 use Rattle.model.specs.Refusals.{passed, _then_, refuseIf, refuseAt, fallsFrom, lastEnd, firstChecks}
 use Rattle.model.specs.Runs.{total, runsFrom, runs}
 

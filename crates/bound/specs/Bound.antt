@@ -8,6 +8,7 @@ use Rattle.bound.specs.declared.Bound.{Bound}
 use Rattle.bound.specs.declared.Bound.the-variants.{Sum, Refused}
 use Rattle.model.specs.Compared.{boundOf}
 use Rattle.model.specs.Refusals.{Check, passed, refusal, _then_, refuseIf, refuseAt, fallsFrom, lastEnd}
+use Rattle.model.specs.Runs.{mostNumbers, mostRuns}
 
 -- the sum over the runs that have these ends, the first of them starting at a
 unfoldable pub sumFrom : ℕ → ℕ → List ℕ → ℕ
@@ -18,9 +19,9 @@ sumFrom d a (e ∷ ends) = boundOf d (e - a) + sumFrom d e ends
 -- place k, if the last end is above 1048576.
 unfoldable pub endChecks : List ℕ → Check
 endChecks ends =
-    refuseIf (eqb (length ends) 0 || ltb 64 (length ends)) 1 (length ends) then
+    refuseIf (eqb (length ends) 0 || ltb mostRuns (length ends)) 1 (length ends) then
     refuseAt 3 (fallsFrom 0 0 ends) then
-    refuseIf (ltb 1048576 (lastEnd 0 ends)) 3 (length ends)
+    refuseIf (ltb mostNumbers (lastEnd 0 ends)) 3 (length ends)
 
 -- What the call returns: the sum, or the refusal's number and place.
 unfoldable pub probeBound : List ℕ → ℕ → Bound

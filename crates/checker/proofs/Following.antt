@@ -9,15 +9,17 @@ use mathlib.Core.List.{List, [], _∷_}
 use mathlib.Core.Logic.{_≢_}
 use mathlib.Core.Path.{_≡_, refl, sym, ap, ap₂, _∙_, subst}
 use native.Mathlib.Omega.{arith}
-use Rattle.fields.specs.Fields.{partOf, readingOf, EndsFrom}
-use Rattle.fields.specs.declared.Field as field
-use Rattle.fields.specs.declared.Field.the-variants.{Read, Unreadable}
-use Rattle.fields.specs.declared.Part as code
+use Rattle.field_read.specs.Reading.{partOf, readingOf, EndsFrom}
+use Rattle.field_read.specs.declared.Field as field
+use Rattle.field_read.specs.declared.Field.the-variants.{Read, Unreadable}
+use Rattle.field_read.specs.declared.Part as code
 use Rattle.model.proofs.Checking.{size-pos, check-read}
 use Rattle.model.specs.Certificate.{Part, answer, gap, lastOf, sizeOf, unreadable, read, readField}
-use Rattle.model.specs.Refusals.{passed, refusal, Verdict, valid, invalid, checkPart, counted, atEnd, checkFrom}
+use Rattle.model.specs.Refusals.{refusal, Verdict, valid, invalid, checkPart, counted, atEnd, checkFrom}
 use Rattle.model.specs.Runs.{Run, pastBin, runs}
-use Rattle.checker.specs.Cursors.{Cursors, numbered, PartChecked, answersIn}
+use Rattle.check_cursor.specs.Cursors.{Cursors}
+use Rattle.check_part.specs.Tested.{numbered, PartChecked}
+use Rattle.checker.specs.Counts.{answerCount}
 
 -- ---- one field
 
@@ -36,8 +38,8 @@ unfolding checkFrom
 from-end zero rs t b at = refl
 from-end (suc fuel) rs t b at = refl
 
-pub answers-few : (p : Part) → answersIn p ≤ 1
-unfolding answersIn
+pub answers-few : (p : Part) → answerCount p ≤ 1
+unfolding answerCount
 answers-few (answer v m) = omega arith
 answers-few (gap f l m) = omega arith
 
@@ -52,8 +54,8 @@ unfolding plus
 plus-none (valid x y) = let i : 0 + x ≡ x = omega arith in let j : 0 + y ≡ y = omega arith in ap₂ valid i j
 plus-none (invalid x y) = refl
 
-plus-counted : (a n : ℕ) (p : Part) (v : Verdict) → plus a n (counted p v) ≡ plus (a + answersIn p) (n + 1) v
-unfolding plus counted answersIn
+plus-counted : (a n : ℕ) (p : Part) (v : Verdict) → plus a n (counted p v) ≡ plus (a + answerCount p) (n + 1) v
+unfolding plus counted answerCount
 plus-counted a n (answer w m) (valid x y) =
     let i : a + suc x ≡ a + 1 + x = omega arith in
     let j : n + suc y ≡ n + 1 + y = omega arith in
@@ -133,7 +135,7 @@ module _ (numbers ends : List ℕ) (t : ℕ) (certificate cursors : List ℕ) (b
   pub along-on : at < length certificate → (x : field.Field) (q : code.Part) (next : ℕ) → x ≡ Read q next
       → readingOf certificate x ≡ readField (drop at certificate) → EndsFrom at x → (cursors′ : List ℕ) (number : ℕ)
       → PartChecked numbers ends t bin (partOf q) cursors′ number → number ≡ 0 → (bin′ more : ℕ) → bin′ ≡ suc (lastOf (partOf q))
-      → more ≡ answersIn (partOf q) → Along numbers ends t certificate cursors′ bin′ next (answers + more) (parts + 1)
+      → more ≡ answerCount (partOf q) → Along numbers ends t certificate cursors′ bin′ next (answers + more) (parts + 1)
   unfolding numbered
   along-on l x q next e r d cursors′ number c n bin′ more eb em =
       let y = next-is x q next e d in

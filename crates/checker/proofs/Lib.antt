@@ -1,8 +1,3 @@
 pub mod Accepting
+pub mod Counts
 pub mod Following
-pub mod Moving
-pub mod Naming
-pub mod Placing
-pub mod Reaching
-pub mod Scanning
-pub mod Testing

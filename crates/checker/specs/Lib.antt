@@ -1,2 +1,2 @@
-pub mod Cursors
+pub mod Counts
 pub mod Verdicts

@@ -1,22 +1,17 @@
 -- One turn of each loop, as a law about the definition that the loop computes. Assumes nothing.
-use Prim.Native.Nat.{ℕ, zero, suc, _+_, _-_, _≤_, _<_}
-use borrow.Author.Tests.{lt-ltb, le-ltb, ltb-false, lt-leb, le-leb}
-use lib.Dec.{ltb, leb}
+use Prim.Native.Nat.{ℕ, suc, _+_, _-_, _≤_, _<_}
+use borrow.Author.Tests.{lt-ltb, le-ltb}
 use lib.ListN.{length, getD, take, drop, drop-of-length-le}
 use lib.Seq.{drop-cons}
-use mathlib.Core.Bool.{Bool, true, false}
-use mathlib.Core.List.{List, [], _∷_}
-use mathlib.Core.Logic.{⊎-elim}
-use mathlib.Core.Option.{Option, none, some}
-use mathlib.Core.Path.{_≡_, refl, sym, ap, _∙_}
+use mathlib.Core.List.{List}
+use mathlib.Core.Option.{none, some}
+use mathlib.Core.Path.{_≡_, sym, ap, _∙_}
 use native.Mathlib.Numerals.{add-one}
 use native.Mathlib.Omega.{arith}
 use Rattle.model.specs.Refusals.{fallsFrom, lastEnd, unrisenIn}
-use Rattle.model.specs.Runs.{Run, one, runsFrom, unrisenAfter, unrisen}
-use Rattle.first_checks.specs.Rising.{onward, fallsIn}
+use Rattle.model.specs.Runs.{runsFrom, unrisen}
 use Rattle.model.proofs.FirstChecks.{not-fallen, end-last}
 use Rattle.model.proofs.Slices.{part-length}
-use Rattle.model.proofs.Tests.{lt-or-le, one-most}
 
 -- ---- the ends
 
@@ -56,61 +51,6 @@ next-ordered numbers ends a i l o =
       rise = sym (falls-on a i ends l (n .0)) ∙ o .rise;
       last = rw (add-one i) (rw (drop-cons ends i 0 l) at (o .last));
     }
-
--- ---- the numbers of a run
-
-pub onward-start : (a : ℕ) (s : List ℕ) → unrisen a s ≡ onward a 1 s
-unfolding onward unrisen unrisenAfter
-onward-start a [] = refl
-onward-start a (x ∷ s) = let e : a + 1 - 1 ≡ a = omega arith in rw e
-
-module _ (a : ℕ) (s : List ℕ) (i : ℕ) (h : 1 ≤ i) where
-  pub onward-stop : i < length s → getD s i 0 ≤ getD s (i - 1) 0 → onward a i s ≡ some (a + i)
-  unfolding onward unrisenAfter
-  onward-stop l q =
-      let e : suc (a + i - 1) ≡ a + i = omega arith in rw (drop-cons s i 0 l, le-ltb (getD s (i - 1) 0) (getD s i 0) q, unrisenAfter, e)
-
-  pub onward-on : i < length s → getD s (i - 1) 0 < getD s i 0 → onward a i s ≡ onward a (i + 1) s
-  unfolding onward unrisenAfter
-  onward-on l q =
-      let e : a + (i + 1) - 1 ≡ a + i = omega arith in
-      let f : suc (a + i - 1) ≡ a + i = omega arith in
-      let g : i + 1 - 1 ≡ i = omega arith in
-      rw (e, g, add-one i, drop-cons s i 0 l, lt-ltb (getD s (i - 1) 0) (getD s i 0) q, unrisenAfter, f)
-
--- n numbers of which none is not above the one before are passed over
-pub falls-none : (s : List ℕ) (i n : ℕ) → 1 ≤ i → i + n ≤ length s → fallsIn s i n ≡ 0 → (a : ℕ) → onward a i s ≡ onward a (i + n) s
-unfolding fallsIn one
-falls-none s i zero h l e a = let z : i ≡ i + 0 = omega arith in ap (λ x. onward a x s) z
-falls-none s i (suc n) h l e a =
-    let z : i + n + 1 ≡ i + suc n = omega arith in
-    ⊎-elim
-    (λ (q : getD s (i + n - 1) 0 < getD s (i + n) 0).
-    let f : fallsIn s i n ≡ 0 = (let t = rw (lt-leb (getD s (i + n) 0) (getD s (i + n - 1) 0) q) at e in omega arith) in
-    falls-none s i n h (omega arith) f a ∙ (onward-on a s (i + n) (omega arith) (omega arith) q ∙ ap (λ x. onward a x s) z))
-    (λ (q : getD s (i + n) 0 ≤ getD s (i + n - 1) 0).
-    absurd (let t = rw (le-leb (getD s (i + n) 0) (getD s (i + n - 1) 0) q) at e in omega arith))
-    (lt-or-le (getD s (i + n - 1) 0) (getD s (i + n) 0))
-
-pub falls-next : (s : List ℕ) (i n : ℕ) → fallsIn s i (n + 1) ≡ fallsIn s i n + one (leb (getD s (i + n) 0) (getD s (i + n - 1) 0))
-unfolding fallsIn
-falls-next s i n = rw (add-one n)
-
-pub falls-first : (s : List ℕ) (i : ℕ) → fallsIn s i 0 ≡ 0
-unfolding fallsIn
-falls-first s i = refl
-
-pub falls-most : (s : List ℕ) (i n : ℕ) → fallsIn s i n ≤ n
-unfolding fallsIn
-falls-most s i zero = omega arith
-falls-most s i (suc n) =
-    let j = falls-most s i n in
-    let k = one-most (leb (getD s (i + n) 0) (getD s (i + n - 1) 0)) in
-    omega arith
-
-pub onward-end : (a : ℕ) (s : List ℕ) (i : ℕ) → length s ≤ i → onward a i s ≡ none
-unfolding onward unrisenAfter
-onward-end a s i h = rw (drop-of-length-le s h)
 
 -- ---- the runs, one after another
 

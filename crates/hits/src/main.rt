@@ -2,8 +2,9 @@
 ghost use mathlib.Core.Path.{_≡_};
 ghost use Prim.Native.Nat.{_≤_};
 ghost use lib.ListN.{length, take};
-ghost use Rattle.hits_text.specs.Hits.{mostText, hits};
-use render::Rendered;
+ghost use Rattle.hits_ask.specs.Ask.{mostText};
+ghost use Rattle.hits_text.specs.Hits.{hits};
+use hits_render::Rendered;
 
 // Room for every text, 262,208 bytes.
 fn room_for_text() -> [u8; 262208]

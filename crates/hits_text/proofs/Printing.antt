@@ -1,50 +1,20 @@
 -- What stands in the program's buffers before is of no account: only their lengths matter. Assumes nothing.
-use Prim.Native.Nat.{ℕ, suc, _+_, _-_, _*_, _≤_, _<_}
+use Prim.Native.Nat.{ℕ, suc, _+_, _-_, _≤_}
 use lib.Dec.{ltb}
 use lib.ListN.{length, take, drop, replicate, length-replicate, length-append}
-use lib.Seq.{take-append-seam, length-take-le}
-use mathlib.Core.Bool.{Bool, true, false}
+use lib.Seq.{take-append-seam}
+use mathlib.Core.Bool.{Bool}
 use mathlib.Core.List.{List, [], _∷_, _++_}
-use mathlib.Core.Logic.{⊎-elim}
 use mathlib.Core.Path.{_≡_, refl, sym, ap, ap₂, _∙_, subst}
 use native.Mathlib.Omega.{arith}
-use Rattle.model.specs.Demands.{Fits}
-use Rattle.model.specs.Refusals.{Check, passed, refusal, firstChecks, Outcome, accepted, refused, outcomeOf, cutWalk, over, query}
-use Rattle.model.specs.Runs.{pastBin, runs}
-use Rattle.parse.specs.Steps.{Returns}
-use Rattle.parse.specs.Text as text
-use Rattle.render.proofs.Printed.{accepted-prints}
-use Rattle.render.specs.Text.{rendered, refuseLine}
-use Rattle.hits_text.specs.Hits.{shown, asked, textFor, parsed, printed, hits}
-
--- ---- the question
-
-outcome-same : (numbers ends : List ℕ) (t allowance : ℕ) (a b c d : List ℕ) → length a ≡ length c → length b ≡ length d
-    → query numbers ends t allowance a b .outcome ≡ query numbers ends t allowance c d .outcome
-unfolding query
-outcome-same numbers ends t allowance a b c d e f = go (firstChecks numbers ends t) refl
-  where
-    go : (k : Check) → firstChecks numbers ends t ≡ k → query numbers ends t allowance a b .outcome ≡ query numbers ends t allowance c d .outcome
-    go passed q = rw (q, query) (λ i. outcomeOf (cutWalk t (runs numbers ends) allowance (e i) (f i)))
-    go (refusal n p) q = rw (q, query)
-
-rendered-same : (numbers ends : List ℕ) (t allowance : ℕ) (a b c d : List ℕ) → Fits pastBin numbers → (o : Outcome)
-    → query numbers ends t allowance a b .outcome ≡ o → query numbers ends t allowance c d .outcome ≡ o
-    → rendered o (query numbers ends t allowance a b .certificate) ≡ rendered o (query numbers ends t allowance c d .certificate)
-unfolding rendered
-rendered-same numbers ends t allowance a b c d f (accepted x n y q) e g =
-    accepted-prints numbers ends t allowance a b f x n y q e ∙ sym (accepted-prints numbers ends t allowance c d f x n y q g)
-rendered-same numbers ends t allowance a b c d f (refused x p y z q) e g = refl
-
-pub ask-text : (numbers ends : List ℕ) (t allowance : ℕ) (a b : List ℕ) → Fits pastBin numbers → length a ≡ 1024 → length b ≡ 65536
-    → shown (query numbers ends t allowance a b) ≡ textFor numbers ends t allowance
-unfolding textFor asked shown
-ask-text numbers ends t allowance a b f e g =
-    let c : List ℕ = replicate 1024 0 in
-    let d : List ℕ = replicate 65536 0 in
-    let o = outcome-same numbers ends t allowance a b c d (e ∙ sym (length-replicate {A = ℕ} 1024 0)) (g ∙ sym (length-replicate {A = ℕ} 65536 0)) in
-    rendered-same numbers ends t allowance a b c d f (query numbers ends t allowance a b .outcome) refl (sym o)
-    ∙ ap (λ x. rendered x (query numbers ends t allowance c d .certificate)) o
+use Rattle.model.specs.Refusals.{over}
+use Rattle.model.specs.Runs.{runs}
+use Rattle.hits_parse.specs.Parsed.{Returns}
+use Rattle.hits_input.specs.Input as text
+use Rattle.hits_render.specs.Text.{refuseLine}
+use Rattle.hits_ask.specs.Ask.{textFor}
+use Rattle.hits_text.specs.Hits.{parsed, printed, hits}
+use Rattle.text_read.specs.Pieces.{split}
 
 -- ---- the input
 
@@ -100,7 +70,7 @@ lines-same longer (l ∷ next ∷ ls) a b c d e f =
 pub parse-text : (input a b : List ℕ) → length a ≡ 1024 → length b ≡ 64 → Same (text.parse input a b) (parsed input)
 unfolding text.parse parsed
 parse-text input a b e f =
-    lines-same (ltb text.mostBytes (length input)) (text.split 10 (take text.mostBytes input)) a b (replicate 1024 0) (replicate 64 0)
+    lines-same (ltb text.mostBytes (length input)) (split 10 (take text.mostBytes input)) a b (replicate 1024 0) (replicate 64 0)
     (e ∙ sym (length-replicate {A = ℕ} 1024 0)) (f ∙ sym (length-replicate {A = ℕ} 64 0))
 
 -- a question's numbers and ends stand in the rows
@@ -128,7 +98,7 @@ lines-fits longer (l ∷ next ∷ ls) a b t x n m e =
 parse-fits : (input a b : List ℕ) (t allowance n m : ℕ) → text.parse input a b .outcome ≡ text.question t allowance n m
     → (m ≤ length (text.parse input a b .numbers)) × (n ≤ length (text.parse input a b .ends))
 unfolding text.parse
-parse-fits input a b t x n m e = lines-fits (ltb text.mostBytes (length input)) (text.split 10 (take text.mostBytes input)) a b t x n m e
+parse-fits input a b t x n m e = lines-fits (ltb text.mostBytes (length input)) (split 10 (take text.mostBytes input)) a b t x n m e
 
 -- ---- what is printed
 
@@ -164,7 +134,3 @@ question-fits input a b a′ b′ t allowance n m r =
     let x = ap length (r .numbers-are) in
     let y = ap length (r .ends-are) in
     (omega (arith, q .0), omega (arith, q .1))
-
--- the whole of a row, as a part of it
-pub part-whole : (k : ℕ) (r : List ℕ) → k ≡ length r → length (take (k - 0) (drop 0 r)) ≡ k
-part-whole k r e = let i : k - 0 ≡ k = omega arith in ap (λ x. length (take x r)) i ∙ length-take-le k r (omega arith)

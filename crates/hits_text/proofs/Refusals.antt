@@ -16,10 +16,14 @@ use Rattle.model.specs.Refusals.{Check, passed, refusal, _then_, refuseIf, refu
 use Rattle.model.specs.Runs.{lastBin, pastBin, runs}
 use Rattle.model.proofs.Enough.{room-enough}
 use Rattle.model.proofs.Tests.{lt-or-le, and-true, or-false}
-use Rattle.parse.specs.Text as text
-use Rattle.render.specs.Text.{decimalIn, decimal, numbersAfter, line, partLine, partLines, doneLine, refuseLine, partsHeld, rendered}
-use Rattle.hits_text.specs.Hits.{shown, asked, textFor, parsed, hits, Printable}
+use Rattle.hits_input.specs.Input as text
+use Rattle.text_write.specs.Lines.{decimalIn, decimal, numbersAfter, line}
+use Rattle.hits_render.specs.Text.{partLine, partLines, doneLine, refuseLine, partsHeld, rendered}
+use Rattle.hits_ask.specs.Ask.{shown, asked, textFor}
+use Rattle.hits_text.specs.Hits.{parsed, hits, Printable}
 use Rattle.hits_text.proofs.Printing.{take-over, ends-length, refused-not, prints-refusal, prints-question}
+use Rattle.text_read.specs.Numbers.{allDigits, digitsValue, number}
+use Rattle.text_read.specs.Pieces.{split}
 
 -- ---- every number of an input is a bin
 
@@ -39,13 +43,13 @@ taken : (c : Bool) (n x : ℕ) → elim c [ true ↦ some n | false ↦ none ] �
 taken true n x e = (refl, cc)
 taken false n x e = absurd (let z : _≡_ {A = ℕ} 0 1 = cc in omega arith)
 
-number-bin : (word : List ℕ) (x : ℕ) → text.number word ≡ some x → x < pastBin
-unfolding text.number lastBin pastBin
+number-bin : (word : List ℕ) (x : ℕ) → number word ≡ some x → x < pastBin
+unfolding number lastBin pastBin
 number-bin [] x e = absurd (let z : _≡_ {A = ℕ} 0 1 = cc in omega arith)
 number-bin (b ∷ word) x e =
-    let n = text.decimal 0 (b ∷ word) in
-    let t = taken (text.allDigits (b ∷ word) && leb n lastBin) n x e in
-    let k = leb-true n lastBin (and-true (text.allDigits (b ∷ word)) (leb n lastBin) (t .0) .1) in
+    let n = digitsValue 0 (b ∷ word) in
+    let t = taken (allDigits (b ∷ word) && leb n lastBin) n x e in
+    let k = leb-true n lastBin (and-true (allDigits (b ∷ word)) (leb n lastBin) (t .0) .1) in
     let i : n ≡ x = t .1 in
     omega arith
 
@@ -59,12 +63,12 @@ before-bins (some x) (some ys) xs h k e = let q : x ∷ ys ≡ xs = cc in subst 
 words-bins : (words : List (List ℕ)) (xs : List ℕ) → text.numbersOf words ≡ some xs → Fits pastBin xs
 unfolding text.numbersOf
 words-bins [] xs e = let q : [] ≡ xs = cc in subst (Fits pastBin) q fits-nil
-words-bins (word ∷ words) xs e = before-bins (text.number word) (text.numbersOf words) xs (number-bin word) (words-bins words) e
+words-bins (word ∷ words) xs e = before-bins (number word) (text.numbersOf words) xs (number-bin word) (words-bins words) e
 
 run-bins : (line run : List ℕ) → text.runOf line ≡ some run → Fits pastBin run
 unfolding text.runOf
 run-bins [] run e = let q : [] ≡ run = cc in subst (Fits pastBin) q fits-nil
-run-bins (b ∷ line) run e = words-bins (text.split 32 (b ∷ line)) run e
+run-bins (b ∷ line) run e = words-bins (split 32 (b ∷ line)) run e
 
 -- ---- the runs of an input
 
@@ -182,7 +186,7 @@ lines-runs longer (l ∷ next ∷ ls) a b t x n m e =
 parse-runs : (input a b : List ℕ) (t allowance n m : ℕ) → text.parse input a b .outcome ≡ text.question t allowance n m
     → Runs (text.parse input a b) (length a) n m
 unfolding text.parse
-parse-runs input a b t x n m e = lines-runs (ltb text.mostBytes (length input)) (text.split 10 (take text.mostBytes input)) a b t x n m e
+parse-runs input a b t x n m e = lines-runs (ltb text.mostBytes (length input)) (split 10 (take text.mostBytes input)) a b t x n m e
 
 parsed-runs : (input : List ℕ) (t allowance n m : ℕ) → parsed input .outcome ≡ text.question t allowance n m → Runs (parsed input) 1024 n m
 unfolding parsed
@@ -290,7 +294,7 @@ lines-fault longer (l ∷ next ∷ ls) a b n p e =
 
 pub fault : (input : List ℕ) (n p : ℕ) → parsed input .outcome ≡ text.refused n p → n ≡ 12
 unfolding parsed text.parse
-fault input n p e = lines-fault (ltb text.mostBytes (length input)) (text.split 10 (take text.mostBytes input)) (replicate 1024 0) (replicate 64 0) n p e
+fault input n p e = lines-fault (ltb text.mostBytes (length input)) (split 10 (take text.mostBytes input)) (replicate 1024 0) (replicate 64 0) n p e
 
 -- An answer is printed, or a refusal by 1, 2, 4, 7 or 12.
 data Prints (text : List ℕ) : Type 0 where

@@ -4,20 +4,9 @@ use mathlib.Core.List.{List}
 use mathlib.Core.Logic.{_⊎_}
 use mathlib.Core.Path.{_≡_}
 use lib.ListN.{take, replicate}
-use Rattle.model.specs.Refusals as model
-use Rattle.parse.specs.Text as text
-use Rattle.render.specs.Text.{rendered, refuseLine}
-
--- the text of what a question comes to
-unfoldable pub shown : model.Answered → List ℕ
-shown a = rendered (a .outcome) (a .certificate)
-
--- The program's buffers hold 1,024 answers and 65,536 certificate bytes. (What stands in a buffer before is of no account; here it is zeros.)
-unfoldable pub asked : List ℕ → List ℕ → ℕ → ℕ → model.Answered
-asked numbers ends t allowance = model.query numbers ends t allowance (replicate 1024 0) (replicate 65536 0)
-
-unfoldable pub textFor : List ℕ → List ℕ → ℕ → ℕ → List ℕ
-textFor numbers ends t allowance = shown (asked numbers ends t allowance)
+use Rattle.hits_input.specs.Input as text
+use Rattle.hits_render.specs.Text.{refuseLine}
+use Rattle.hits_ask.specs.Ask.{textFor}
 
 -- The input is refused, or is a question of at most 1,024 numbers in at most 64 runs.
 unfoldable pub parsed : List ℕ → text.Result
@@ -36,7 +25,3 @@ hits input = printed (parsed input)
 -- The numbers of the refusals that can be printed: 12 of the input, and 1, 2, 4 and 7 of its question.
 unfoldable pub Printable : ℕ → Type 0
 Printable n = (n ≡ 1) ⊎ ((n ≡ 2) ⊎ ((n ≡ 4) ⊎ ((n ≡ 7) ⊎ (n ≡ 12))))
-
--- Room for every text that is printed: 4 bytes for each certificate byte, and 64.
-unfoldable pub mostText : ℕ
-mostText = 262208

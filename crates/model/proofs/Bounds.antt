@@ -11,18 +11,19 @@ use mathlib.Core.Logic.{⊎-elim, _≢_}
 use mathlib.Core.Path.{_≡_, refl, sym, ap, _∙_}
 use native.Mathlib.Nat.{mul-le-mul-right, mul-le-mul-left}
 use native.Mathlib.Omega.{arith}
-use Rattle.model.specs.Compared.{partsOf, cost, probeIn, probesIn, probe, probesOf, digits, boundIn, bound}
-use Rattle.model.specs.Runs.{Run, lastBin, pastBin, total, one}
+use Rattle.model.specs.Compared.{partsOf, cost, probeIn, probesIn, probe, probesOf, digits}
+use Rattle.model.specs.Runs.{Run, pastBin, total, one}
 use Rattle.model.specs.Walk.{Event, sought, doubled, halved, wrote, headOf, head, seek, searchIn, searches}
-use Rattle.model.proofs.Count.{total-map, total-zero, total-add, total-eq, total-le}
+use Rattle.model.proofs.Count.{total-map, total-zero, total-add}
 use Rattle.model.proofs.Digits.{digits-mono}
 use Rattle.model.proofs.Events.{cost-append, cost-replicate, cost-searches, parts-wrote, parts-round}
-use Rattle.model.proofs.From.{Rise, from, rise-from, from-length, head-nil, head-cons}
+use Rattle.model.specs.Rows.{Rise}
+use Rattle.model.proofs.From.{rise-from, from-length, head-nil, head-cons}
 use Rattle.model.proofs.Masks.{Labelled, label-first, label-rest, label-least}
 use Rattle.model.proofs.Searching.{sought-right}
-use Rattle.model.proofs.Tests.{both, lt-or-le, eq-or-ne}
+use Rattle.model.proofs.Tests.{lt-or-le}
 use Rattle.model.proofs.Truth.{Fit, labelled-at}
-use Rattle.model.proofs.Walking.{Rising, rising-tail, fromRun, at, map-mem, gapAt, answerAt, Walked, over, stop, pass, hit, hit-here}
+use Rattle.model.proofs.Walking.{Rising, rising-tail, fromRun, at, gapAt, answerAt, Walked, over, stop, pass, hit, hit-here}
 
 -- a search that is made, and one that is not
 pub search-made : (v : ℕ) (r : Run) → head r < v

@@ -12,12 +12,12 @@ use mathlib.Core.Logic.{⊎-elim, _≢_}
 use mathlib.Core.Path.{_≡_, refl, sym, ap, ap₂, _∙_, subst}
 use native.Mathlib.Nat.{div-eq-of-lt, div-lt-iff-lt-mul, one-mul}
 use native.Mathlib.Omega.{arith}
-use Rattle.model.specs.Certificate.{Part, answer, gap, firstOf, lastOf, maskOf, answersOf, encodePart, encode, sizeOf, Reading, unreadable, read, readField, Covers, covered, covers, TrueGap, TrueAnswer, TruePart, gap-true, answer-true, TrueCertificate}
+use Rattle.model.specs.Certificate.{Part, answer, gap, firstOf, lastOf, maskOf, answersOf, encodePart, encode, sizeOf, Reading, unreadable, read, readField, Covers, covered, covers, TrueGap, TrueAnswer, TruePart, gap-true, answer-true}
 use Rattle.model.specs.Demands.{Fits, Accepts}
 use Rattle.model.specs.Range.{within}
 use Rattle.model.specs.Refusals.{Check, passed, refusal, _then_, refuseIf, firstChecks, Verdict, valid, invalid, misplaced, misnamed, contradicts, anyContradicts, checkPart, counted, atEnd, checkFrom, check}
-use Rattle.model.specs.Runs.{Run, firstBin, pastBin, runs, holds, bit, names}
-use Rattle.model.proofs.Encoding.{InRange, read-back, part-size, FieldOf, read-field}
+use Rattle.model.specs.Runs.{Run, firstBin, pastBin, runs, names}
+use Rattle.model.proofs.Encoding.{InRange, read-back, part-size, read-field}
 use Rattle.model.proofs.Fewest.{covers-nil, covers-first, covers-order, covers-rest}
 use Rattle.model.proofs.FirstChecks.{then-first, then-second, refuse-if, first-passed, runs-length}
 use Rattle.model.proofs.From.{holds-mem, mem-holds}

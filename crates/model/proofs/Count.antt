@@ -7,7 +7,7 @@ use mathlib.Core.Logic.{_⊎_, inl, inr, ⊎-elim}
 use mathlib.Core.Path.{_≡_, refl, sym, ap, ap₂, _∙_}
 use native.Mathlib.Omega.{arith}
 use Rattle.model.specs.Runs.{Run, total, one, count}
-use Rattle.model.proofs.Tests.{both, true-false}
+use Rattle.model.proofs.Tests.{both}
 
 pub total-nil : (g : Run → ℕ) → total g [] ≡ 0
 unfolding total

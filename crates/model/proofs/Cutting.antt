@@ -10,9 +10,9 @@ use mathlib.Core.List.{List, [], _∷_, _++_, List·Memᴰ, List·Memᴰ·head, 
 use mathlib.Core.Logic.{⊎-elim, _≢_}
 use mathlib.Core.Path.{_≡_, refl, sym, ap, _∙_, subst}
 use native.Mathlib.Omega.{arith}
-use Rattle.model.specs.Certificate.{Part, answer, gap}
-use Rattle.model.specs.Compared.{partsOf, cost, probesIn, probe, probesOf}
-use Rattle.model.specs.Refusals.{Room, met, after, Ended, cut}
+use Rattle.model.specs.Certificate.{answer, gap}
+use Rattle.model.specs.Compared.{partsOf, cost, probe, probesOf}
+use Rattle.model.specs.Refusals.{Room, met, after, cut}
 use Rattle.model.specs.Walk.{Event, sought, doubled, halved, wrote}
 use Rattle.model.proofs.Events.{cost-append, parts-append}
 use Rattle.model.proofs.Tests.{both, eq-or-ne}

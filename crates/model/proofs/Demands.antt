@@ -11,17 +11,17 @@ use native.Mathlib.Omega.{arith}
 use Rattle.model.specs.Certificate.{Part, answersOf, encode, TrueCertificate}
 use Rattle.model.specs.Compared.{wholeWalk, partsOf, wholeCertificate, probeIn, probesIn, probesOf, digits, boundOf, boundIn, bound}
 use Rattle.model.specs.Demands.{Fits, answersIn, partsIn, bytesIn, probesMade, refusedBy, Certified, Demand2, Bounded, Demand3}
-use Rattle.model.specs.Refusals.{Check, passed, firstChecks, Room, Ended, cut, cutWalk, Outcome, Answered, over, outcomeOf, query}
+use Rattle.model.specs.Refusals.{passed, firstChecks, Ended, cutWalk, over, outcomeOf, query}
 use Rattle.model.specs.Runs.{Run, firstBin, pastBin, runs, total}
 use Rattle.model.specs.Walk.{Event, walk}
-use Rattle.model.proofs.Bounds.{walk-probes, Owned, owned, sum-probes}
+use Rattle.model.proofs.Bounds.{walk-probes, owned, sum-probes}
 use Rattle.model.proofs.Count.{total-le}
 use Rattle.model.proofs.Cutting.{cut-whole, cut-parts, cut-few, cut-cost, cut-mem, cut-enough}
 use Rattle.model.proofs.Exact.{exact}
 use Rattle.model.proofs.Fewest.{fewest}
 use Rattle.model.proofs.FirstChecks.{fit}
 use Rattle.model.proofs.Truth.{Fit, walk-covers, walk-true}
-use Rattle.model.proofs.Walking.{Walked, walked, at, at-start}
+use Rattle.model.proofs.Walking.{Walked, walked, at-start}
 
 -- the whole walk goes one of the ways
 pub whole-walked : {rs : List Run} {t : ℕ} → Fit rs t → Walked rs t firstBin (wholeWalk t rs)

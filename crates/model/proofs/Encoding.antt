@@ -11,10 +11,9 @@ use mathlib.Core.Logic.{⊎-elim}
 use mathlib.Core.Path.{_≡_, refl, sym, ap, ap₂, _∙_, subst}
 use native.Mathlib.Nat.{mod-lt}
 use native.Mathlib.Omega.{arith}
-use Rattle.model.specs.Certificate.{Part, answer, gap, firstOf, lastOf, maskOf, bytesOf, numberOf, field, encodePart, encode, sizeOf, Reading, unreadable, read, readBody, readField}
+use Rattle.model.specs.Certificate.{Part, answer, gap, firstOf, lastOf, maskOf, bytesOf, numberOf, field, encodePart, sizeOf, unreadable, read, readBody, readField}
 use Rattle.model.specs.Demands.{Fits}
-use Rattle.model.specs.Runs.{pastBin}
-use Rattle.model.proofs.Tests.{both, lt-or-le, and-true}
+use Rattle.model.proofs.Tests.{both, and-true}
 
 -- ---- numbers and bytes
 

@@ -22,10 +22,11 @@ use Rattle.model.proofs.Cutting.{cut-on, cut-here}
 use Rattle.model.proofs.Demands.{whole-walked}
 use Rattle.model.proofs.Events.{parts-round}
 use Rattle.model.proofs.FirstChecks.{first-passed, fit, not-fallen}
-use Rattle.model.proofs.From.{from, from-pass, from-stop, from-nil, from-from, from-length, head-nil, head-cons}
+use Rattle.model.specs.Rows.{from, equal}
+use Rattle.model.proofs.From.{from-pass, from-stop, from-nil, from-from, from-length, head-nil, head-cons}
 use Rattle.model.proofs.Heads.{atMost}
 use Rattle.model.proofs.Tests.{lt-or-le, eq-or-ne, one-most}
-use Rattle.model.proofs.Walking.{fromRun, at, equal, gapAt, answerAt, Walked, over, stop, pass, hit, hit-here}
+use Rattle.model.proofs.Walking.{fromRun, at, gapAt, answerAt, Walked, over, stop, pass, hit, hit-here}
 
 -- ---- numbers left
 

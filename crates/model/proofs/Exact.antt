@@ -14,8 +14,8 @@ use Rattle.model.specs.Demands.{Exact}
 use Rattle.model.specs.Runs.{Run, firstBin, pastBin, unrisenAfter, unrisen, holds, count, names}
 use Rattle.model.proofs.Count.{count-disjoint, count-le, count-some}
 use Rattle.model.proofs.Fewest.{covers-nil, covers-first, covers-order, covers-rest, gap-names, answer-names}
-use Rattle.model.proofs.From.{holds-mem, mem-holds, rise-bin, rise-least}
-use Rattle.model.proofs.Tests.{both, lt-or-le, true-false}
+use Rattle.model.proofs.From.{holds-mem, mem-holds, rise-bin}
+use Rattle.model.proofs.Tests.{both, lt-or-le}
 use Rattle.model.proofs.Truth.{Fit}
 
 -- how many runs hold a bin

@@ -11,18 +11,19 @@ use mathlib.Core.List.{List, [], _∷_, _++_, List·Memᴰ, List·Memᴰ·head, 
 use mathlib.Core.Logic.{⊎-elim}
 use mathlib.Core.Path.{_≡_, refl, sym, ap, _∙_, subst}
 use native.Mathlib.Omega.{arith}
-use Rattle.model.specs.Certificate.{Part, answer, gap, firstOf, lastOf, Covers, covered, covers, TrueGap, TrueAnswer, TruePart, gap-true, answer-true}
+use Rattle.model.specs.Certificate.{Part, firstOf, lastOf, Covers, covered, covers, TrueGap, TrueAnswer, TruePart, gap-true, answer-true}
 use Rattle.model.specs.Compared.{partsOf}
 use Rattle.model.specs.Runs.{Run, lastBin, pastBin, count, names}
 use Rattle.model.specs.Walk.{Event, head, headOf, wrote}
 use Rattle.model.proofs.Count.{count-disjoint, count-map, count-le}
 use Rattle.model.proofs.Events.{parts-wrote, parts-nil, parts-round}
-use Rattle.model.proofs.From.{from, rise-from, from-mem, head-mem, head-least}
+use Rattle.model.specs.Rows.{from, equal}
+use Rattle.model.proofs.From.{rise-from, from-mem, head-mem, head-least}
 use Rattle.model.proofs.Heads.{atMost}
 use Rattle.model.proofs.Masks.{only-below, ones-names}
-use Rattle.model.proofs.Tests.{both, lt-or-le, true-false}
+use Rattle.model.proofs.Tests.{both, lt-or-le}
 use Rattle.model.proofs.Truth.{Fit}
-use Rattle.model.proofs.Walking.{fromRun, at, head-from, equal, gapAt, answerAt, Walked, over, stop, pass, hit, hit-here}
+use Rattle.model.proofs.Walking.{fromRun, at, head-from, gapAt, answerAt, Walked, over, stop, pass, hit, hit-here}
 
 pub covers-nil : {b : ℕ} → Covers b [] → b ≡ pastBin
 covers-nil (covered e) = e

@@ -13,9 +13,9 @@ use native.Mathlib.Omega.{arith}
 use Rattle.model.specs.Demands.{Fits}
 use Rattle.model.specs.Refusals.{Check, passed, refusal, _then_, refuseIf, refuseAt, fallsFrom, lastEnd, unrisenIn, firstChecks}
 use Rattle.model.specs.Runs.{Run, pastBin, runsFrom, runs, unrisenAfter, unrisen}
-use Rattle.model.proofs.From.{Rise, rise-nil, rise-cons}
+use Rattle.model.specs.Rows.{Rise, rise-nil, rise-cons}
 use Rattle.model.proofs.Masks.{Labelled, labelled-nil, labelled-cons}
-use Rattle.model.proofs.Tests.{both, lt-or-le, or-false}
+use Rattle.model.proofs.Tests.{lt-or-le, or-false}
 use Rattle.model.proofs.Truth.{Fit}
 use Rattle.model.proofs.Walking.{Rising}
 

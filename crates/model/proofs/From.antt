@@ -11,12 +11,8 @@ use mathlib.Core.Path.{_≡_, refl, sym, ap, _∙_, subst}
 use native.Mathlib.Omega.{arith}
 use Rattle.model.specs.Runs.{pastBin, holds}
 use Rattle.model.specs.Walk.{headOf}
-use Rattle.model.proofs.Tests.{both, lt-or-le, eq-or-ne, true-false}
-
--- bins that rise, the first of them not below a
-pub data Rise : ℕ → List ℕ → Type 0 where
-  rise-nil : {a : ℕ} → Rise a []
-  rise-cons : {a x : ℕ} {s : List ℕ} → a ≤ x → x < pastBin → Rise (suc x) s → Rise a (x ∷ s)
+use Rattle.model.proofs.Tests.{lt-or-le, eq-or-ne, true-false}
+use Rattle.model.specs.Rows.{Rise, rise-nil, rise-cons, from, rank}
 
 pub rise-least : {a x : ℕ} {s : List ℕ} → Rise a s → List·Memᴰ x s → a ≤ x
 rise-least rise-nil m = absurd (List·Memᴰ·not-nil m)
@@ -34,16 +30,6 @@ rise-head-bin (rise-cons l u r) = u
 
 pub rise-tail : {a x : ℕ} {s : List ℕ} → Rise a (x ∷ s) → Rise (suc x) s
 rise-tail (rise-cons l u r) = r
-
--- the numbers of a list from v on
-unfoldable pub from : ℕ → List ℕ → List ℕ
-from v [] = []
-from v (x ∷ s) = elim (ltb x v) [ true ↦ from v s | false ↦ x ∷ s ]
-
--- how many numbers stand before those; document 003's insertion rank less one
-unfoldable pub rank : ℕ → List ℕ → ℕ
-rank v [] = 0
-rank v (x ∷ s) = elim (ltb x v) [ true ↦ suc (rank v s) | false ↦ 0 ]
 
 pub from-pass : (v x : ℕ) (s : List ℕ) → x < v → from v (x ∷ s) ≡ from v s
 unfolding from

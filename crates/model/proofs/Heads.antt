@@ -13,14 +13,12 @@ use native.Mathlib.Omega.{arith}
 use Rattle.model.specs.Runs.{Run, pastBin, total, one, count}
 use Rattle.model.specs.Walk.{head, leastHead, tthHead}
 use Rattle.model.proofs.Count.{count-le, count-eq, count-some}
-use Rattle.model.proofs.Tests.{both, lt-or-le, eq-or-ne}
+use Rattle.model.proofs.Tests.{both, lt-or-le}
+use Rattle.model.specs.Rows.{Ordered, ordered-nil, ordered-cons, below}
 
--- the heads not above h, and those below h
+-- how many heads are not above h
 unfoldable pub atMost : ℕ → List Run → ℕ
 atMost h rs = count (λ r. leb (head r) h) rs
-
-unfoldable pub below : ℕ → List Run → ℕ
-below h rs = count (λ r. ltb (head r) h) rs
 
 -- every head is a bin or the number after the last
 pub record Heads (rs : List Run) : Type 0 where
@@ -179,11 +177,7 @@ tth-none t rs h l k = (
       (lt-or-le (tthHead t rs) pastBin),
 )
 
--- A list of numbers in rising order, equal ones each counted, and how many of them are not above h.
-pub data Ordered : ℕ → List ℕ → Type 0 where
-  ordered-nil : {a : ℕ} → Ordered a []
-  ordered-cons : {a x : ℕ} {s : List ℕ} → a ≤ x → Ordered x s → Ordered a (x ∷ s)
-
+-- how many numbers are not above h
 unfoldable pub notAbove : ℕ → List ℕ → ℕ
 notAbove h [] = 0
 notAbove h (x ∷ s) = one (leb x h) + notAbove h s

@@ -15,7 +15,7 @@ use native.Mathlib.Nat.{zero-add, div-eq-of-lt, div-eq-of-lt-le, zero-div, div-l
 use native.Mathlib.Omega.{arith}
 use Rattle.model.specs.Runs.{Run, total, one, count, mask, bit, names}
 use Rattle.model.proofs.Count.{count-eq}
-use Rattle.model.proofs.Tests.{both, lt-or-le, eq-or-ne}
+use Rattle.model.proofs.Tests.{lt-or-le, eq-or-ne}
 
 -- the runs' labels are a, a + 1 and so on
 pub data Labelled : ℕ → List Run → Type 0 where

@@ -9,15 +9,16 @@ use mathlib.Core.Logic.{⊎-elim}
 use mathlib.Core.Path.{_≡_, refl, sym, ap, _∙_, subst}
 use native.Mathlib.Omega.{arith}
 use Rattle.model.specs.Compared.{wholeWalk, partsOf, wholeCertificate}
-use Rattle.model.specs.Runs.{Run, firstBin, lastBin, pastBin, count}
-use Rattle.model.specs.Walk.{Event, wrote, head, tthHead, searches, searched, movedOn, settle, round, walk}
+use Rattle.model.specs.Runs.{Run, firstBin, lastBin, pastBin}
+use Rattle.model.specs.Walk.{Event, wrote, head, tthHead, searches, searched, settle, walk}
 use Rattle.model.proofs.Count.{count-le}
 use Rattle.model.proofs.Demands.{whole-walked}
 use Rattle.model.proofs.Events.{parts-wrote, parts-round}
-use Rattle.model.proofs.Heads.{atMost, below}
+use Rattle.model.specs.Rows.{below, equal}
+use Rattle.model.proofs.Heads.{atMost}
 use Rattle.model.proofs.Tests.{lt-or-le}
 use Rattle.model.proofs.Truth.{Fit}
-use Rattle.model.proofs.Walking.{Rising, at, at-least, at-start, searched-at, moved-at, past-last, equal, Ahead, gapAt, answerAt, Walked, over, stop, pass, hit, hit-here, no-searches, settled-hit, settled-last, settled-pass, round-stop, round-gap, round-here}
+use Rattle.model.proofs.Walking.{Rising, at, at-least, at-start, searched-at, moved-at, past-last, Ahead, gapAt, answerAt, Walked, over, stop, pass, hit, hit-here, no-searches, settled-hit, settled-last, settled-pass, round-stop, round-gap, round-here}
 
 -- a walk that is at its end has nothing left to do
 nothing-left : {rs : List Run} {t f : ℕ} {es : List Event} → Walked rs t f es → f ≡ pastBin → es ≡ []

@@ -13,7 +13,8 @@ use native.Mathlib.Omega.{arith}
 use Rattle.model.specs.Compared.{digits}
 use Rattle.model.specs.Walk.{doubling, Bracket, halving, Halving, seek}
 use Rattle.model.proofs.Digits.{below-digits}
-use Rattle.model.proofs.From.{Rise, from, rank, rank-le, below-rank, from-rank, drop-rank, rank-pass}
+use Rattle.model.specs.Rows.{Rise, from, rank}
+use Rattle.model.proofs.From.{rank-le, below-rank, from-rank, drop-rank, rank-pass}
 use Rattle.model.proofs.Tests.{lt-or-le}
 
 -- the step equations of doubling

@@ -10,17 +10,17 @@ use mathlib.Core.List.{List, [], _∷_, _++_, List·Memᴰ, List·Memᴰ·head, 
 use mathlib.Core.Logic.{⊎-elim}
 use mathlib.Core.Path.{_≡_, refl, sym, ap, _∙_, subst}
 use native.Mathlib.Omega.{arith}
-use Rattle.model.specs.Certificate.{Part, answer, gap, firstOf, lastOf, Covers, covered, covers, TrueGap, TrueAnswer, TruePart, gap-true, answer-true}
+use Rattle.model.specs.Certificate.{Part, firstOf, lastOf, Covers, covered, covers, TrueGap, TrueAnswer, TruePart, gap-true, answer-true}
 use Rattle.model.specs.Compared.{partsOf}
-use Rattle.model.specs.Runs.{Run, lastBin, pastBin, count, mask, names}
-use Rattle.model.specs.Walk.{Event, head, headOf, wrote, searches}
+use Rattle.model.specs.Runs.{Run, lastBin, pastBin, mask, names}
+use Rattle.model.specs.Walk.{Event, head, headOf, wrote}
 use Rattle.model.proofs.Count.{count-not}
 use Rattle.model.proofs.Events.{parts-wrote, parts-nil, parts-round}
-use Rattle.model.proofs.From.{from, rise-from, mem-from, from-mem, head-below-mem, head-mem}
-use Rattle.model.proofs.Heads.{below}
+use Rattle.model.specs.Rows.{from, below, equal}
+use Rattle.model.proofs.From.{rise-from, mem-from, from-mem, head-below-mem, head-mem}
 use Rattle.model.proofs.Masks.{Labelled, labelled-nil, labelled-cons, below-only, mask-only, ones-mask, names-mask}
-use Rattle.model.proofs.Tests.{both, lt-or-le}
-use Rattle.model.proofs.Walking.{Rising, fromRun, at, at-length, head-from, past-last, equal, Ahead, gapAt, answerAt, Walked, over, stop, pass, hit, hit-here}
+use Rattle.model.proofs.Tests.{lt-or-le}
+use Rattle.model.proofs.Walking.{Rising, fromRun, at, at-length, head-from, past-last, gapAt, answerAt, Walked, over, stop, pass, hit, hit-here}
 
 -- runs that rise, labelled from 0 on, with a threshold that they can meet
 pub record Fit (rs : List Run) (t : ℕ) : Type 0 where

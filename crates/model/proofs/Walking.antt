@@ -12,12 +12,13 @@ use mathlib.Core.Path.{_≡_, refl, sym, ap, ap₂, _∙_, subst}
 use native.Mathlib.Omega.{arith}
 use Rattle.model.specs.Certificate.{Part, answer, gap}
 use Rattle.model.specs.Runs.{Run, lastBin, pastBin, count, mask}
-use Rattle.model.specs.Walk.{Event, wrote, headOf, head, tthHead, seek, searchIn, searches, searched, movedOn, settle, round, walk}
-use Rattle.model.proofs.Count.{count-le, count-eq}
-use Rattle.model.proofs.From.{Rise, from, rise-from, from-from, from-all, from-nil, head-nil, head-cons, head-least, head-bin, from-past-head, from-other-head}
-use Rattle.model.proofs.Heads.{Heads, atMost, below, tth-past, tth-ge, tth-enough, tth-few}
+use Rattle.model.specs.Walk.{Event, wrote, headOf, head, tthHead, searchIn, searches, searched, movedOn, settle, round, walk}
+use Rattle.model.proofs.Count.{count-le}
+use Rattle.model.specs.Rows.{Rise, from, below, equal}
+use Rattle.model.proofs.From.{rise-from, from-from, from-all, from-nil, head-nil, head-cons, head-least, head-bin, from-past-head, from-other-head}
+use Rattle.model.proofs.Heads.{Heads, atMost, tth-past, tth-ge, tth-enough, tth-few}
 use Rattle.model.proofs.Searching.{sought-right}
-use Rattle.model.proofs.Tests.{both, lt-or-le, eq-or-ne}
+use Rattle.model.proofs.Tests.{lt-or-le, eq-or-ne}
 
 pub past-last : pastBin ≡ suc lastBin
 unfolding pastBin lastBin
@@ -133,10 +134,6 @@ moved-at v rs g h =
     (λ r m.
     moved-bins v (r .label) (from v (r .bins)) (rise-from v (r .bins) (g .each r m)) h
     ∙ λ i. record { label = r .label; bins = from-from v (suc v) (r .bins) (omega arith) i })
-
--- how many heads equal v
-unfoldable pub equal : ℕ → List Run → ℕ
-equal v rs = count (λ r. eqb (head r) v) rs
 
 -- v is the t-th smallest head at the floor f
 pub record Ahead (rs : List Run) (t f v : ℕ) : Type 0 where

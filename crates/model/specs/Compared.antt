@@ -4,7 +4,7 @@ use mathlib.Core.Bool.{Bool, true, false}
 use mathlib.Core.List.{List, [], _∷_}
 use lib.ListN.{length}
 use lib.Dec.{ltb, eqb}
-use Rattle.model.specs.Certificate.{Part, answer, gap}
+use Rattle.model.specs.Certificate.{Part}
 use Rattle.model.specs.Runs.{Run, firstBin, pastBin, total, one}
 use Rattle.model.specs.Walk.{Event, sought, doubled, halved, wrote, walk}
 

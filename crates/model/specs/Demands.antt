@@ -7,7 +7,7 @@ use mathlib.Core.Path.{_≡_}
 use lib.ListN.{length, take}
 use Rattle.model.specs.Certificate.{Part, answersOf, encode, TrueCertificate}
 use Rattle.model.specs.Compared.{wholeWalk, wholeCertificate, probesIn, boundIn, bound}
-use Rattle.model.specs.Refusals.{Check, passed, firstChecks, cutWalk, Outcome, accepted, refused, Verdict, valid}
+use Rattle.model.specs.Refusals.{passed, firstChecks, cutWalk, Outcome, accepted, refused, Verdict, valid}
 use Rattle.model.specs.Runs.{Run, runs, unrisen, holds, total, count}
 
 -- A lent row of 32-bit numbers, a lent row of bytes: each of its numbers is below w.

@@ -4,5 +4,6 @@ pub mod Demands
 pub mod Instances
 pub mod Range
 pub mod Refusals
+pub mod Rows
 pub mod Runs
 pub mod Walk

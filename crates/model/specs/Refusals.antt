@@ -7,10 +7,10 @@ use mathlib.Core.Option.{Option, none, some}
 use lib.Count.{ones}
 use lib.Dec.{ltb, leb, eqb}
 use lib.ListN.{length, drop}
-use Rattle.model.specs.Certificate.{Part, answer, gap, firstOf, lastOf, answersOf, encode, sizeOf, Reading, unreadable, read, readField}
+use Rattle.model.specs.Certificate.{Part, answer, gap, firstOf, lastOf, answersOf, encode, sizeOf, unreadable, read, readField}
 use Rattle.model.specs.Compared.{wholeWalk, partsOf, probesOf}
 use Rattle.model.specs.Range.{within}
-use Rattle.model.specs.Runs.{Run, firstBin, pastBin, runs, unrisen, holds, names}
+use Rattle.model.specs.Runs.{Run, firstBin, pastBin, runs, unrisen, holds, names, mostRuns, mostNumbers}
 use Rattle.model.specs.Walk.{Event, sought, doubled, halved, wrote}
 
 -- A check is passed or is refused with the refusal's number and place. Checks are made in order, and the first one met decides.
@@ -49,10 +49,10 @@ unrisenIn a (r ∷ rs) = elim (unrisen a (r .bins)) [ some i ↦ some i | none �
 -- The first checks, those of the door, in the order of the table.
 unfoldable pub firstChecks : List ℕ → List ℕ → ℕ → Check
 firstChecks numbers ends t =
-    refuseIf (eqb (length ends) 0 || ltb 64 (length ends)) 1 (length ends) then
+    refuseIf (eqb (length ends) 0 || ltb mostRuns (length ends)) 1 (length ends) then
     refuseIf (eqb t 0 || ltb (length ends) t) 2 t then
     refuseAt 3 (fallsFrom 0 0 ends) then
-    refuseIf (not (eqb (lastEnd 0 ends) (length numbers)) || ltb 1048576 (length numbers)) 3 (length ends) then
+    refuseIf (not (eqb (lastEnd 0 ends) (length numbers)) || ltb mostNumbers (length numbers)) 3 (length ends) then
     refuseAt 4 (unrisenIn 0 (runs numbers ends))
 
 -- What is left of the allowance, the answer buffer and the certificate buffer.

@@ -16,6 +16,13 @@ lastBin = 4294967295
 unfoldable pub pastBin : ℕ
 pastBin = 4294967296
 
+-- There are at most 64 runs, and at most 1,048,576 numbers in all of them.
+abbrev pub mostRuns : ℕ
+mostRuns = 64
+
+abbrev pub mostNumbers : ℕ
+mostNumbers = 1048576
+
 -- A run is one rising list of bins. The label is its number; where a walk has moved on, the bins are those from the run's position on.
 pub record Run : Type 0 where
   pub label : ℕ
@@ -60,7 +67,11 @@ one false = 0
 unfoldable pub count : (Run → Bool) → List Run → ℕ
 count p rs = total (λ r. one (p r)) rs
 
--- A mask is a 64-bit number in which bit i speaks of run i, bit 0 being the lowest. The mask that names the runs that pass a test:
+-- A mask is a 64-bit number in which bit i speaks of run i, bit 0 being the lowest.
+abbrev pub maskBits : ℕ
+maskBits = 64
+
+-- the mask that names the runs that pass a test
 unfoldable pub mask : (Run → Bool) → List Run → ℕ
 mask p rs = total (λ r. one (p r) * 2 ^ r .label) rs
 

@@ -4,12 +4,14 @@ use lib.ListN.{length}
 use mathlib.Core.List.{List}
 use mathlib.Core.Path.{_≡_, refl, sym, ap, _∙_, subst}
 use native.Mathlib.Omega.{arith}
-use Rattle.model.specs.Runs.{Run, pastBin}
+use Rattle.model.specs.Runs.{Run}
 use Rattle.model.specs.Walk.{round, walk}
-use Rattle.query.specs.Turns.{goesOn, endsWith, Stands, Fitted, Goes, Raises, Finishes}
-use Rattle.query.specs.declared.State.{State}
-use Rattle.query.specs.declared.Turn.the-variants.{On, Done, Stopped}
-use Rattle.walk.specs.State.{runsAt}
+use Rattle.walk_write.specs.Writes.{goesOn, endsWith, Fitted}
+use Rattle.walk_round.specs.Turns.{Stands, Goes, Raises}
+use Rattle.query.specs.Ends.{Finishes}
+use Rattle.walk_write.specs.declared.State.{State}
+use Rattle.walk_write.specs.declared.Turn.the-variants.{On}
+use Rattle.walk_state.specs.State.{runsAt}
 
 -- so many rounds are made from the state w on, with these buffers then
 pub record Made (numbers ends : List ℕ) (t : ℕ) (rs : List Run) (w : State) (A B positions keys A′ B′ : List ℕ) (x : State) : Type 0 where

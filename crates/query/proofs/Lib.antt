@@ -1,9 +1,2 @@
-pub mod Advancing
-pub mod Ending
 pub mod Finishing
-pub mod Passing
 pub mod Questions
-pub mod Rounds
-pub mod Rows
-pub mod Settling
-pub mod Writing

@@ -6,21 +6,23 @@ use mathlib.Core.Path.{_≡_, refl, sym, ap, _∙_, subst}
 use native.Mathlib.Omega.{arith}
 use Rattle.model.specs.Compared.{wholeWalk}
 use Rattle.model.specs.Demands.{Fits, Demand2, Demand3}
-use Rattle.model.specs.Refusals.{Outcome, accepted, refused, refusal, passed, firstChecks, query}
-use Rattle.model.specs.Runs.{Run, firstBin, pastBin, runs}
+use Rattle.model.specs.Refusals.{Outcome, refused, refusal, firstChecks, query}
+use Rattle.model.specs.Runs.{pastBin, runs}
 use Rattle.model.specs.Walk.{walk}
 use Rattle.model.proofs.Demands as demands
 use Rattle.model.proofs.Exact.{first-least}
 use Rattle.model.proofs.FirstChecks.{first-passed, fit}
-use Rattle.progress.specs.Progress.{Counts, noCounts, onward, outcomeAt, ended}
-use Rattle.progress.proofs.Progress.{onward-start}
-use Rattle.query.specs.Turns.{countsOf, goesOn, endsWith, Stands, Fitted, Finishes, Begins, ComesTo}
+use Rattle.walk_progress.specs.Progress.{noCounts, onward, outcomeAt, ended}
+use Rattle.walk_progress.proofs.Progress.{onward-start}
+use Rattle.walk_write.specs.Writes.{countsOf, goesOn, endsWith, Fitted}
+use Rattle.walk_round.specs.Turns.{Stands}
+use Rattle.query.specs.Ends.{Finishes, Begins, ComesTo}
 use Rattle.query.specs.Outcomes.{Returns}
 use Rattle.query.specs.declared.End.{End}
-use Rattle.query.specs.declared.State.{State}
-use Rattle.walk.proofs.Moving.{past-is}
-use Rattle.walk.specs.Moves.{BeginReady}
-use Rattle.walk.specs.State.{runsAt, Holds}
+use Rattle.walk_write.specs.declared.State.{State}
+use Rattle.walk_state.proofs.Moving.{past-is}
+use Rattle.walk_state.specs.Moves.{BeginReady}
+use Rattle.walk_state.specs.State.{runsAt, Holds}
 
 -- the state before the first round
 abbrev pub firstState : ℕ → ℕ → State

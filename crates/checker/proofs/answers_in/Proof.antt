@@ -1,5 +1,5 @@
 -- `answers_in` is 1 for an answer and 0 for a gap. Assumes nothing.
-use Rattle.checker.proofs.Testing.{one-answer, no-answer}
+use Rattle.checker.proofs.Counts.{one-answer, no-answer}
 use borrow.Author.Needs.{needs}
 use Rattle.checker.proofs.answers_in.Statement.{statement}
 use Rattle.checker.proofs.answers_in.Tie as tie

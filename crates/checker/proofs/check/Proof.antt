@@ -9,8 +9,8 @@ use Rattle.model.specs.Refusals.{passed, invalid, firstChecks, checkFrom}
 use Rattle.model.specs.Runs.{pastBin, runs}
 use Rattle.checker.specs.Verdicts.{verdictIs}
 use Rattle.checker.proofs.Accepting.{few-runs, met, accepted, check-refused, check-passed}
-use Rattle.checker.proofs.Moving.{bin-fits}
-use Rattle.checker.proofs.Placing.{begins}
+use Rattle.check_cursor.proofs.Moving.{bin-fits}
+use Rattle.check_cursor.proofs.Placing.{begins}
 use borrow.Author.Needs.{needs}
 use Rattle.checker.proofs.check.Statement.{statement}
 use Rattle.checker.proofs.check.Tie as tie
@@ -41,8 +41,8 @@ enum-told c = search needs
 has-passed : (c : tie.After-enum-told) → (let a = c .before .before .before .before .before .before .args in firstChecks (a .numbers .now) (a .ends .now) (a .threshold) ≡ passed)
 has-passed c = sym (c .before .before .first-checks .ensures) ∙ ap checkOf (c .enum-told .given .1)
 
-wide-requires : tie.Need-wide-requires
-wide-requires c κs = search needs
+usize-of-u32-requires : tie.Need-usize-of-u32-requires
+usize-of-u32-requires c κs = search needs
 
 sub-check-all : tie.Need-sub-check-all
 sub-check-all c = search needs
@@ -59,7 +59,7 @@ check-all-requires : tie.Need-check-all-requires
 check-all-requires c κs =
     let a = c .before .before .before .before .before .before .before .before .args in
     let p = has-passed (c .before .before) in
-    let e = c .before .wide .ensures in
+    let e = c .before .usize-of-u32 .ensures in
     let m = met (a .numbers .now) (a .ends .now) (a .threshold) p in
     let f = few-runs (a .numbers .now) (a .ends .now) (a .threshold) p in
     (begins (a .numbers .now) (a .ends .now) (a .threshold) _ (fits-bins (c .before .before .before .before .before .before .before)) p (search needs), omega (arith, e, m))
@@ -70,7 +70,7 @@ returns-2 c =
     let u = c .before .check-all in
     accepted (a .numbers .now) (a .ends .now) (a .threshold) (a .certificate .now) (verdictIs (u .result)) (fits-bytes (c .before .before .before .before .before .before .before))
     (check-passed (a .numbers .now) (a .ends .now) (a .threshold) (a .certificate .now) (verdictIs (u .result)) (has-passed (c .before .before .before .before))
-    (u .ensures ∙ ap (λ x. checkFrom (length (a .certificate .now)) (runs (a .numbers .now) (a .ends .now)) x 0 0 (a .certificate .now)) (c .before .before .before .wide .ensures)))
+    (u .ensures ∙ ap (λ x. checkFrom (length (a .certificate .now)) (runs (a .numbers .now) (a .ends .now)) x 0 0 (a .certificate .now)) (c .before .before .before .usize-of-u32 .ensures)))
 
 pub check-spec : {M : Type 1} → statement M
 check-spec =
@@ -80,7 +80,7 @@ check-spec =
     enum-known-number
     returns
     enum-told
-    wide-requires
+    usize-of-u32-requires
     sub-check-all
     part-cursors-start
     part-cursors-end

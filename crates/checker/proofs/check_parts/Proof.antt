@@ -3,7 +3,7 @@ use Prim.Native.Nat.{_-_, _≤_}
 use lib.ListN.{length}
 use mathlib.Core.Path.{_≡_, refl, sym, ap, _∙_, subst}
 use native.Mathlib.Omega.{arith}
-use Rattle.fields.specs.Fields.{partOf}
+use Rattle.field_read.specs.Reading.{partOf}
 use Rattle.model.proofs.Checking.{size-pos}
 use Rattle.checker.proofs.Following.{Along, along-start, along-unreadable, along-refused, along-on, next-is, answers-few, along-valid, along-uncovered}
 use borrow.Author.Needs.{needs}

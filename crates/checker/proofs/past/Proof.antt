@@ -1,5 +1,5 @@
 -- `past` gives the bin after a part. Assumes nothing.
-use Rattle.checker.proofs.Testing.{past-answer, past-gap}
+use Rattle.checker.proofs.Counts.{past-answer, past-gap}
 use borrow.Author.Needs.{needs}
 use Rattle.checker.proofs.past.Statement.{statement}
 use Rattle.checker.proofs.past.Tie as tie

@@ -7,7 +7,7 @@ use mathlib.Core.Option.{none}
 use mathlib.Core.Path.{_≡_, refl, sym, ap, _∙_}
 use native.Mathlib.Omega.{arith}
 use Rattle.model.specs.Refusals.{refusal, fallsFrom, lastEnd}
-use Rattle.first_checks.specs.Checked.{placeOf}
+use Rattle.rising.specs.Found.{foundPlace}
 use Rattle.first_checks.proofs.Order as order
 use borrow.Author.Needs.{needs}
 use Rattle.first_checks.proofs.first_checks.Statement.{statement}
@@ -22,7 +22,7 @@ record Shape (ends : List ℕ) (t : ℕ) : Type 0 where
 
 shape : (c : tie.Else4) → (let a = c .before .before .before .before .before .before .before .args in Shape (a .ends .now) (a .threshold))
 shape c =
-    let e = c .before .before .wide .ensures in
+    let e = c .before .before .usize-of-u32 .ensures in
     record {
       some-runs = c .before .before .before .before .if1 .left;
       few-runs = c .before .before .before .if2 .left;
@@ -39,7 +39,7 @@ ends : (c : tie.Else5) → (let a = c .before .before .before .before .before .b
 ends c =
     let f = c .before .before .before .before .falling-end .ensures in
     record {
-      rise = sym f ∙ ap placeOf (c .before .before .enum-told .given .1);
+      rise = sym f ∙ ap foundPlace (c .before .before .enum-told .given .1);
       last = sym (c .before .last-end .ensures) ∙ c .if5 .left;
     }
 
@@ -51,13 +51,13 @@ returns-2 c =
     let a = c .before .before .before .before .args in
     sym (order.many-runs (a .numbers .now) (a .ends .now) (a .threshold) (c .before .if1 .left) (c .if2 .taken))
 
-wide-requires : tie.Need-wide-requires
-wide-requires c κs = search needs
+usize-of-u32-requires : tie.Need-usize-of-u32-requires
+usize-of-u32-requires c κs = search needs
 
 returns-3 : tie.Need-returns-3
 returns-3 c =
     let a = c .before .before .before .before .before .before .args in
-    let e = c .before .wide .ensures in
+    let e = c .before .usize-of-u32 .ensures in
     ap (refusal 2) e
     ∙ sym (order.zero-threshold (a .numbers .now) (a .ends .now) (a .threshold) (c .before .before .before .if1 .left) (c .before .before .if2 .left) (omega (arith, c .if3 .taken)))
 
@@ -65,7 +65,7 @@ returns-4 : tie.Need-returns-4
 returns-4 c =
     let w = c .before .before in
     let a = w .before .before .before .before .before .args in
-    let e = w .wide .ensures in
+    let e = w .usize-of-u32 .ensures in
     ap (refusal 2) e
     ∙ sym
     (order.high-threshold (a .numbers .now) (a .ends .now) (a .threshold) (w .before .before .if1 .left) (w .before .if2 .left)
@@ -84,7 +84,7 @@ returns-5 c =
     let g = shape (f .before) in
     sym
     (order.falling (a .numbers .now) (a .ends .now) (a .threshold) (g .some-runs) (g .few-runs) (g .some-threshold) (g .threshold)
-    (sym (f .falling-end .ensures) ∙ ap placeOf (c .before .place .given .1)))
+    (sym (f .falling-end .ensures) ∙ ap foundPlace (c .before .place .given .1)))
 
 enum-told : tie.Need-enum-told
 enum-told c = search needs
@@ -99,7 +99,7 @@ returns-6 c =
     let g = shape (f .before) in
     sym
     (order.other-last (a .numbers .now) (a .ends .now) (a .threshold) (g .some-runs) (g .few-runs) (g .some-threshold) (g .threshold)
-    (sym (f .falling-end .ensures) ∙ ap placeOf (c .before .before .enum-told .given .1))
+    (sym (f .falling-end .ensures) ∙ ap foundPlace (c .before .before .enum-told .given .1))
     (λ q. c .if5 .taken (c .before .last-end .ensures ∙ q)))
 
 returns-7 : tie.Need-returns-7
@@ -127,7 +127,7 @@ returns-8 c =
     let h = ends (n .before .before) in
     sym
     (order.unrisen-at (a .numbers .now) (a .ends .now) (a .threshold) (g .some-runs) (g .few-runs) (g .some-threshold) (g .threshold) (h .rise) (h .last)
-    (n .before .if6 .left) (sym (n .unrisen-number .ensures) ∙ ap placeOf (c .before .place2 .given .1)))
+    (n .before .if6 .left) (sym (n .unrisen-number .ensures) ∙ ap foundPlace (c .before .place2 .given .1)))
 
 enum-told-2 : tie.Need-enum-told-2
 enum-told-2 c = search needs
@@ -141,7 +141,7 @@ returns-9 c =
     let h = ends (n .before .before) in
     sym
     (order.all-passed (a .numbers .now) (a .ends .now) (a .threshold) (g .some-runs) (g .few-runs) (g .some-threshold) (g .threshold) (h .rise) (h .last)
-    (n .before .if6 .left) (sym (n .unrisen-number .ensures) ∙ ap placeOf (c .enum-told2 .given .1)))
+    (n .before .if6 .left) (sym (n .unrisen-number .ensures) ∙ ap foundPlace (c .enum-told2 .given .1)))
 
 pub first-checks-spec : {M : Type 1} → statement M
 first-checks-spec =
@@ -149,7 +149,7 @@ first-checks-spec =
     (tie.spec
     returns
     returns-2
-    wide-requires
+    usize-of-u32-requires
     returns-3
     returns-4
     falling-end-requires

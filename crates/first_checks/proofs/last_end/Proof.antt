@@ -26,23 +26,23 @@ at-last b (x ∷ (y ∷ ends)) h =
 returns : tie.Need-returns
 returns c = sym (none-last (c .before .before .args .ends .now) (c .if1 .taken))
 
-sub-wide : tie.Need-sub-wide
-sub-wide c = search needs
+sub-usize-of-u32 : tie.Need-sub-usize-of-u32
+sub-usize-of-u32 c = search needs
 
-mul-wide : tie.Need-mul-wide
-mul-wide c = search needs
+mul-usize-of-u32 : tie.Need-mul-usize-of-u32
+mul-usize-of-u32 c = search needs
 
-shared-slice-read-wide : tie.Need-shared-slice-read-wide
-shared-slice-read-wide c = search needs
+shared-slice-read-usize-of-u32 : tie.Need-shared-slice-read-usize-of-u32
+shared-slice-read-usize-of-u32 c = search needs
 
-wide-requires : tie.Need-wide-requires
-wide-requires c κs = search needs
+usize-of-u32-requires : tie.Need-usize-of-u32-requires
+usize-of-u32-requires c κs = search needs
 
 returns-2 : tie.Need-returns-2
 returns-2 c =
     let a = c .before .before .before .before .args in
-    c .wide .ensures ∙ sym (at-last 0 (a .ends .now) (omega arith))
+    c .usize-of-u32 .ensures ∙ sym (at-last 0 (a .ends .now) (omega arith))
 
 pub last-end-spec : {M : Type 1} → statement M
 last-end-spec =
-    tie.close (tie.spec returns sub-wide mul-wide shared-slice-read-wide wide-requires returns-2)
+    tie.close (tie.spec returns sub-usize-of-u32 mul-usize-of-u32 shared-slice-read-usize-of-u32 usize-of-u32-requires returns-2)

@@ -8,7 +8,7 @@ use mathlib.Core.Path.{_≡_, refl, sym, ap, _∙_}
 use native.Mathlib.Omega.{arith}
 use Rattle.model.specs.Refusals.{unrisenIn}
 use Rattle.model.specs.Runs.{runsFrom, runs, unrisen}
-use Rattle.first_checks.specs.Checked.{placeOf}
+use Rattle.rising.specs.Found.{foundPlace}
 use Rattle.model.proofs.Slices.{part-length}
 use Rattle.first_checks.proofs.Laws.{Ordered, next-end, next-ordered, runs-at, runs-on, runs-end}
 use borrow.Author.Needs.{needs}
@@ -35,22 +35,22 @@ loop-holds : tie.Need-loop-holds Inv-loop μ-loop
 unfolding runs
 loop-holds c = record { bound = omega arith; ordered = record { rise = c .before .before .pre .0; last = c .before .before .pre .1 }; same = refl }
 
-mul-wide : tie.Need-mul-wide Inv-loop μ-loop
-mul-wide c = search needs
+mul-usize-of-u32 : tie.Need-mul-usize-of-u32 Inv-loop μ-loop
+mul-usize-of-u32 c = search needs
 
-shared-slice-read-wide : tie.Need-shared-slice-read-wide Inv-loop μ-loop
-shared-slice-read-wide c = search needs
+shared-slice-read-usize-of-u32 : tie.Need-shared-slice-read-usize-of-u32 Inv-loop μ-loop
+shared-slice-read-usize-of-u32 c = search needs
 
-wide-requires : tie.Need-wide-requires Inv-loop μ-loop
-wide-requires c κs = search needs
+usize-of-u32-requires : tie.Need-usize-of-u32-requires Inv-loop μ-loop
+usize-of-u32-requires c κs = search needs
 
 -- the run lies in the numbers
-inside : (c : tie.After-wide Inv-loop μ-loop) → (let l = c .before .before .before in (l .loop .start ≤ c .wide .result) × (c .wide .result ≤ length (c .before .before .before .before .before .before .args .numbers .now)))
+inside : (c : tie.After-usize-of-u32 Inv-loop μ-loop) → (let l = c .before .before .before in (l .loop .start ≤ c .usize-of-u32 .result) × (c .usize-of-u32 .result ≤ length (c .before .before .before .before .before .before .args .numbers .now)))
 inside c =
     let l = c .before .before .before in
     let a = c .before .before .before .before .before .before .args in
     let n = next-end (a .numbers .now) (a .ends .now) (l .loop .start) (l .loop .i) (c .before .before .loop-test .taken) (l .loop .inv .ordered) in
-    let e = c .wide .ensures in
+    let e = c .usize-of-u32 .ensures in
     (omega (arith, n .0), omega (arith, n .1))
 
 mul-first-unrisen : tie.Need-mul-first-unrisen Inv-loop μ-loop
@@ -70,7 +70,7 @@ first-unrisen-requires c κs =
     let n = inside (c .before) in
     let a = c .before .before .before .before .before .before .before .args in
     let l = c .before .before .before .before .loop in
-    let k = part-length (l .start) (c .before .wide .result) (a .numbers .now) (n .1) in
+    let k = part-length (l .start) (c .before .usize-of-u32 .result) (a .numbers .now) (n .1) in
     let w = c .before .before .before .before .before .before .shared-slice-known in
     omega (arith, n .0, n .1)
 
@@ -84,7 +84,7 @@ returns c =
     let a = c .before .before .before .before .before .before .before .before .before .before .before .args in
     let g = c .before .place .given in
     sym (l .loop .inv .same ∙ runs-at (a .numbers .now) (a .ends .now) (l .loop .start) (l .loop .i) (g .0 .0) (c .before .before .before .before .before .before .before .loop-test .taken)
-    (part-is (a .numbers .now) (l .loop .start) (c .before .before .before .before .before .wide .ensures) (sym (u .first-unrisen .ensures) ∙ ap placeOf (g .1))))
+    (part-is (a .numbers .now) (l .loop .start) (c .before .before .before .before .before .usize-of-u32 .ensures) (sym (u .first-unrisen .ensures) ∙ ap foundPlace (g .1))))
 
 enum-told : tie.Need-enum-told Inv-loop μ-loop
 enum-told c = search needs
@@ -101,12 +101,12 @@ loop-again c =
     let l = c .before .before .before .before .before .before .before in
     let a = c .before .before .before .before .before .before .before .before .before .before .args in
     let h = c .before .before .before .before .before .before .loop-test .taken in
-    let w = c .before .before .before .before .wide .ensures in
+    let w = c .before .before .before .before .usize-of-u32 .ensures in
     record {
       bound = omega arith;
       ordered = rw w (next-ordered (a .numbers .now) (a .ends .now) (l .loop .start) (l .loop .i) h (l .loop .inv .ordered));
       same = l .loop .inv .same ∙ (runs-on (a .numbers .now) (a .ends .now) (l .loop .start) (l .loop .i) h (l .loop .inv .ordered)
-          (part-is (a .numbers .now) (l .loop .start) w (sym (u .first-unrisen .ensures) ∙ ap placeOf (c .enum-told .given .1))) ∙ rw w);
+          (part-is (a .numbers .now) (l .loop .start) w (sym (u .first-unrisen .ensures) ∙ ap foundPlace (c .enum-told .given .1))) ∙ rw w);
     }
 
 returns-2 : tie.Need-returns-2 Inv-loop μ-loop
@@ -122,9 +122,9 @@ unrisen-number-spec =
     Inv-loop
     μ-loop
     loop-holds
-    mul-wide
-    shared-slice-read-wide
-    wide-requires
+    mul-usize-of-u32
+    shared-slice-read-usize-of-u32
+    usize-of-u32-requires
     mul-first-unrisen
     sub-first-unrisen
     part-first-unrisen-start

@@ -1,5 +1,5 @@
 -- `answer` lends a buffer with room for every text. Assumes nothing.
-use Rattle.hits_text.specs.Hits.{mostText}
+use Rattle.hits_ask.specs.Ask.{mostText}
 use borrow.Author.Needs.{needs}
 use Rattle.hits.proofs.answer.Statement.{statement}
 use Rattle.hits.proofs.answer.Tie as tie

@@ -3,9 +3,9 @@ use Prim.Native.Nat.{ℕ, _≤_}
 use lib.ListN.{length}
 use mathlib.Core.Path.{_≡_, sym, _∙_, subst}
 use native.Mathlib.Omega.{arith}
-use Rattle.render.specs.Text.{Shows}
-use Rattle.render.specs.declared.Rendered.the-variants.{Text, Full}
-use Rattle.render.proofs.Laid.{shown-text}
+use Rattle.hits_render.specs.Text.{Shows}
+use Rattle.hits_render.specs.declared.Rendered.the-variants.{Text, Full}
+use Rattle.hits_render.proofs.Fitting.{shown-text}
 use Rattle.hits_text.specs.Hits.{hits}
 use borrow.Author.Needs.{needs}
 use Rattle.hits.proofs.write_text.Statement.{statement}

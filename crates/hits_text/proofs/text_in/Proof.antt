@@ -3,12 +3,11 @@ use Prim.Native.Nat.{_+_, _*_, _≤_, _<_}
 use lib.ListN.{length, take, drop}
 use mathlib.Core.Path.{_≡_, refl, sym, ap, _∙_, subst}
 use native.Mathlib.Omega.{arith}
-use Rattle.parse.specs.Steps.{outcomeIs, Returns}
-use Rattle.parse.specs.Text as text
-use Rattle.parse.specs.declared.Parsed.the-variants.{Question, Faulty}
-use Rattle.render.specs.Text.{Shows}
-use Rattle.render.specs.declared.Rendered.the-variants.{Text}
-use Rattle.hits_text.specs.Hits.{mostText, hits}
+use Rattle.hits_parse.specs.Parsed.{outcomeIs, Returns}
+use Rattle.hits_input.specs.Input as text
+use Rattle.hits_render.specs.Text.{Shows}
+use Rattle.hits_render.specs.declared.Rendered.the-variants.{Text}
+use Rattle.hits_ask.specs.Ask.{mostText}
 use Rattle.hits_text.proofs.Printing.{refusal-text, question-text, question-fits}
 use borrow.Author.Needs.{needs}
 use Rattle.hits_text.proofs.text_in.Statement.{statement}

@@ -4,11 +4,11 @@ use lib.ListN.{length}
 use mathlib.Core.Path.{_≡_, refl, _∙_, subst}
 use native.Mathlib.Omega.{arith}
 use Rattle.model.specs.Walk.{round, walk}
-use Rattle.query.specs.Turns.{Goes, Raises}
-use Rattle.query.specs.declared.Turn.the-variants.{On}
-use Rattle.walk.proofs.Moving.{past-is}
+use Rattle.walk_round.specs.Turns.{Goes, Raises}
+use Rattle.walk_write.specs.declared.Turn.the-variants.{On}
+use Rattle.walk_state.proofs.Moving.{past-is}
 use Rattle.query.proofs.Finishing.{Made, made-none, made-more, made-all}
-use Rattle.walk.specs.State.{runsAt}
+use Rattle.walk_state.specs.State.{runsAt}
 use borrow.Author.Needs.{needs}
 use Rattle.query.proofs.all_rounds.Statement.{statement}
 use Rattle.query.proofs.all_rounds.Tie as tie

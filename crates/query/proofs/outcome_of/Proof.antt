@@ -4,8 +4,8 @@ use mathlib.Core.Logic.{_≢_}
 use mathlib.Core.Path.{_≡_, refl, sym}
 use native.Mathlib.Omega.{arith}
 use Rattle.model.specs.Refusals as model
-use Rattle.progress.specs.Progress.{Counts, outcomeAt}
-use Rattle.query.specs.Turns.{countsOf}
+use Rattle.walk_progress.specs.Progress.{Counts, outcomeAt}
+use Rattle.walk_write.specs.Writes.{countsOf}
 use borrow.Author.Needs.{needs}
 use Rattle.query.proofs.outcome_of.Statement.{statement}
 use Rattle.query.proofs.outcome_of.Tie as tie

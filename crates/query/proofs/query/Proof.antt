@@ -6,7 +6,7 @@ use Rattle.model.specs.Demands.{Fits}
 use Rattle.model.specs.Refusals.{refused, firstChecks, query}
 use Rattle.model.specs.Runs.{pastBin}
 use Rattle.query.specs.Outcomes.{outcomeIs, Returns}
-use Rattle.walk.proofs.Moving.{past-is}
+use Rattle.walk_state.proofs.Moving.{past-is}
 use Rattle.query.proofs.Questions.{refused-first, demanded}
 use Rattle.model.proofs.FirstChecks.{fits}
 use borrow.Author.Needs.{needs}
@@ -22,14 +22,14 @@ enum-known-number c = search needs
 enum-told : tie.Need-enum-told
 enum-told c = search needs
 
-place-of-requires : tie.Need-place-of-requires
-place-of-requires c κs = search needs
+usize-of-u32-requires : tie.Need-usize-of-u32-requires
+usize-of-u32-requires c κs = search needs
 
 answer-requires : tie.Need-answer-requires
 answer-requires c κs =
     let a = c .before .before .before .before .before .before .before .before .before .before .args in
     let f = c .before .before .before .before .before .first-checks in
-    ap (firstChecks (a .numbers .now) (a .ends .now)) (c .before .before .place-of .ensures)
+    ap (firstChecks (a .numbers .now) (a .ends .now)) (c .before .before .usize-of-u32 .ensures)
     ∙ (sym (f .ensures) ∙ ap checkOf (c .before .before .before .enum-told .given .1))
 
 fits-bins : (c : tie.After-shared-slice-known) → Fits pastBin (c .before .args .numbers .now)
@@ -57,7 +57,7 @@ returns-2 c =
     demanded (a .numbers .now) (a .ends .now) (a .threshold) (a .allowance) (a .answers .now) (a .certificate .now) (u .last .1 .1 .1 .1 .0) (u .last .1 .1 .1 .1 .1 .0)
     (outcomeIs (u .result)) (fits-bins (c .before .before .before .before .before .before .before .before .before .before .before .before .before .before))
     (subst (λ x. Returns (query (a .numbers .now) (a .ends .now) x (a .allowance) (a .answers .now) (a .certificate .now)) (outcomeIs (u .result)) (u .last .1 .1 .1 .1 .0) (u .last .1 .1 .1 .1 .1 .0))
-    (c .before .before .before .before .before .before .before .place-of .ensures) (u .ensures))
+    (c .before .before .before .before .before .before .before .usize-of-u32 .ensures) (u .ensures))
 
 pub query-spec : {M : Type 1} → statement M
 query-spec =
@@ -66,7 +66,7 @@ query-spec =
     first-checks-requires
     enum-known-number
     enum-told
-    place-of-requires
+    usize-of-u32-requires
     answer-requires
     returns
     same-length

@@ -2,7 +2,7 @@
 use native.Mathlib.Omega.{arith}
 use Rattle.model.specs.Demands.{Fits}
 use Rattle.model.specs.Runs.{pastBin}
-use Rattle.walk.proofs.Moving.{past-is}
+use Rattle.walk_state.proofs.Moving.{past-is}
 use Rattle.query.proofs.Questions.{begin-ready, stands-first, comes-first}
 use Rattle.model.proofs.FirstChecks.{fits}
 use borrow.Author.Needs.{needs}

@@ -1,0 +1,74 @@
+// Small functions on numbers: a number in a wider type, the lesser and the greater of two, what is left of one, a comparison as a number.
+ghost use mathlib.Core.Path.{_≡_};
+ghost use Prim.Native.Nat.{_-_, _<_, min};
+ghost use lib.Dec.{ltb};
+ghost use Rattle.model.specs.Runs.{one};
+ghost use Rattle.arith.specs.Order.{lesser, greater};
+
+pub fn u64_of_u32(x: u32) -> u64
+    ensures { λ r. ⌜ r ≡ x ⌝ }
+{
+    x as u64
+}
+
+pub fn usize_of_u32(x: u32) -> usize
+    ensures { λ r. ⌜ r ≡ x ⌝ }
+{
+    x as usize
+}
+
+pub fn u64_of_usize(x: usize) -> u64
+    ensures { λ r. ⌜ r ≡ x ⌝ }
+{
+    x as u64
+}
+
+pub fn u64_of_u8(x: u8) -> u64
+    ensures { λ r. ⌜ r ≡ x ⌝ }
+{
+    x as u64
+}
+
+pub fn u16_of_u8(x: u8) -> u16
+    ensures { λ r. ⌜ (r ≡ x) × (r < 256) ⌝ }
+{
+    x as u16
+}
+
+// 1 where x is below y, otherwise 0.
+pub fn one_if_below(x: u64, y: u64) -> usize
+    ensures { λ r. ⌜ r ≡ one (ltb x y) ⌝ }
+{
+    (x < y) as usize
+}
+
+pub fn lesser(x: u64, y: u64) -> u64
+    ensures { λ r. ⌜ r ≡ lesser x y ⌝ }
+{
+    if x < y {
+        return x;
+    }
+    y
+}
+
+pub fn greater(x: u64, y: u64) -> u64
+    ensures { λ r. ⌜ r ≡ greater x y ⌝ }
+{
+    if x < y {
+        return y;
+    }
+    x
+}
+
+pub fn least(a: usize, b: usize) -> usize
+    ensures { λ r. ⌜ r ≡ min a b ⌝ }
+{
+    if a <= b { a } else { b }
+}
+
+// What is left of `whole` after `taken`, 0 where that is more.
+pub fn left(whole: usize, taken: usize) -> usize
+    ensures { λ r. ⌜ r ≡ whole - taken ⌝ }
+{
+    if taken <= whole { whole - taken } else { 0 }
+}

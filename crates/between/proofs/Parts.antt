@@ -1,0 +1,99 @@
+-- The part of a rising list between two numbers stands from the rank of the first on and before the rank of the number after the last. Assumes nothing.
+use Prim.Native.Nat.{ℕ, suc, _+_, _-_, _≤_, _<_}
+use borrow.Author.Tests.{lt-ltb, le-ltb, le-leb, lt-leb}
+use lib.ListN.{length, take, drop}
+use mathlib.Core.List.{List, [], _∷_}
+use mathlib.Core.Logic.{⊎-elim}
+use mathlib.Core.Option.{none, some}
+use mathlib.Core.Path.{_≡_, refl, sym, ap, _∙_}
+use native.Mathlib.Omega.{arith}
+use Rattle.model.specs.Rows.{Rise, rise-nil, rise-cons, rank}
+use Rattle.model.proofs.From.{rank-nil, rank-pass, rank-stop, rank-le}
+use Rattle.model.proofs.Tests.{lt-or-le}
+use Rattle.model.specs.Range.{within, between}
+use Rattle.model.specs.Runs.{unrisen}
+use Rattle.between.specs.Places.{Spans}
+
+-- ---- the part between two numbers
+
+module _ (first last : ℕ) (h : first ≤ last) where
+  within-below : (x : ℕ) (s : List ℕ) → x < first → within first last (x ∷ s) ≡ within first last s
+  unfolding within
+  within-below x s l = rw (lt-leb first x l, within)
+
+  within-in : (x : ℕ) (s : List ℕ) → first ≤ x → x ≤ last → within first last (x ∷ s) ≡ x ∷ within first last s
+  unfolding within
+  within-in x s l u = rw (le-leb first x l, le-leb x last u, within)
+
+  within-above : (x : ℕ) (s : List ℕ) → last < x → within first last (x ∷ s) ≡ within first last s
+  unfolding within
+  within-above x s l = let m : first ≤ x = omega arith in rw (le-leb first x m, lt-leb x last l, within)
+
+  within-nil : within first last [] ≡ []
+  unfolding within
+  within-nil = refl
+
+  -- above the last there is nothing
+  within-none : {a : ℕ} {s : List ℕ} → Rise a s → last < a → within first last s ≡ []
+  within-none rise-nil l = within-nil
+  within-none (rise-cons {x = x} {s = s} m u r) l =
+      let n : last < x = omega arith in rw (within-above x s n) (within-none r (omega arith))
+
+  -- from the first on it is a front of the list
+  within-front : {a : ℕ} {s : List ℕ} → Rise a s → first ≤ a → within first last s ≡ take (rank (last + 1) s) s
+  within-front rise-nil l = rw (within-nil, rank-nil (last + 1))
+  within-front (rise-cons {x = x} {s = s} m u r) l =
+      ⊎-elim
+      (λ (q : x < last + 1).
+      let n : first ≤ x = omega arith in
+      let o : x ≤ last = omega arith in
+      rw (within-in x s n o, rank-pass (last + 1) x s q) (ap (λ (t : List ℕ). x ∷ t) (within-front r (omega arith))))
+      (λ (q : last + 1 ≤ x).
+      let n : last < x = omega arith in rw (within-above x s n, rank-stop (last + 1) x s q) (within-none r (omega arith)))
+      (lt-or-le x (last + 1))
+
+  pub within-part : {a : ℕ} {s : List ℕ} → Rise a s
+      → take (rank (last + 1) s - rank first s) (drop (rank first s) s) ≡ within first last s
+  within-part rise-nil = rw (within-nil, rank-nil (last + 1), rank-nil first)
+  within-part (rise-cons {x = x} {s = s} m u r) =
+      ⊎-elim
+      (λ (q : x < first).
+      let o : x < last + 1 = omega arith in
+      let e : suc (rank (last + 1) s) - suc (rank first s) ≡ rank (last + 1) s - rank first s = omega arith in
+      rw (within-below x s q, rank-pass first x s q, rank-pass (last + 1) x s o, e) (within-part r))
+      (λ (q : first ≤ x).
+      let e : rank (last + 1) (x ∷ s) - 0 ≡ rank (last + 1) (x ∷ s) = omega arith in
+      rw (rank-stop first x s q, e) (sym (within-front (rise-cons q u r) (omega arith))))
+      (lt-or-le x first)
+
+-- a rank grows with its number
+pub rank-mono : (v w : ℕ) (s : List ℕ) → v ≤ w → rank v s ≤ rank w s
+rank-mono v w [] h = rw (rank-nil v) (omega arith)
+rank-mono v w (x ∷ s) h =
+    ⊎-elim
+    (λ (q : x < v). let o : x < w = omega arith in rw (rank-pass v x s q, rank-pass w x s o) (let i = rank-mono v w s h in omega arith))
+    (λ (q : v ≤ x). rw (rank-stop v x s q) (omega arith))
+    (lt-or-le x v)
+
+module _ (first last : ℕ) (s : List ℕ) where
+  pub between-none : last < first → between first last s ≡ []
+  unfolding between
+  between-none h = rw (lt-ltb last first h, between)
+
+  pub between-unrisen : (i : ℕ) → first ≤ last → unrisen 0 s ≡ some i → between first last s ≡ []
+  unfolding between
+  between-unrisen i h e = rw (le-ltb last first h, e, between)
+
+  between-risen : first ≤ last → unrisen 0 s ≡ none → between first last s ≡ within first last s
+  unfolding between
+  between-risen h e = rw (le-ltb last first h, e, between)
+
+  pub spans-none : between first last s ≡ [] → Spans first last s (record { start = 0; end = 0 })
+  spans-none e = record { ordered = omega arith; inside = omega arith; part = sym e }
+
+  pub spans-ranks : first ≤ last → unrisen 0 s ≡ none → Rise 0 s → Spans first last s (record { start = rank first s; end = rank (last + 1) s })
+  spans-ranks h e r = record {
+    ordered = rank-mono first (last + 1) s (omega arith);
+    inside = rank-le (last + 1) s;
+    part = within-part first last h r ∙ sym (between-risen h e);
+  }

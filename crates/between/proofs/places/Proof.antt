@@ -1,0 +1,81 @@
+-- `range::between_at` meets its contract: where the list rises, the ends are the ranks of the first and of the number after the last.
+-- Assumes nothing.
+use borrow.Author.Needs.{needs}
+use denote.Ref.{now}
+use mathlib.Core.Option.{none}
+use mathlib.Core.Path.{_≡_, sym, ap, _∙_}
+use native.Mathlib.Omega.{arith}
+use Rattle.model.specs.Rows.{Rise}
+use Rattle.rising.specs.Found.{foundPlace}
+use Rattle.model.specs.Runs.{pastBin, unrisen}
+use Rattle.model.proofs.FirstChecks.{fits, risen}
+use Rattle.between.proofs.Parts.{between-none, between-unrisen, spans-none, spans-ranks}
+use Rattle.between.proofs.places.Statement.{statement}
+use Rattle.between.proofs.places.Tie as tie
+
+-- what the test says of the list
+risen-there : (c : tie.After-enum-told) → unrisen 0 (c .before .before .before .before .before .args .list .now) ≡ none
+risen-there c = sym (c .before .before .first-unrisen .ensures) ∙ ap foundPlace (c .enum-told .given .1)
+
+rise : (c : tie.After-enum-told) → Rise 0 (c .before .before .before .before .before .args .list .now)
+unfolding pastBin
+rise c =
+    let list = c .before .before .before .before .before .args .list .now in
+    risen 0 list (risen-there c) (fits pastBin list (λ i. omega (arith, c .before .before .before .before .shared-slice-known .given i)))
+
+returns : tie.Need-returns
+returns c = let a = c .before .before .args in spans-none _ _ _ (between-none (a .first) (a .last) (now (a .list)) (c .if1 .taken))
+
+first-unrisen-requires : tie.Need-first-unrisen-requires
+first-unrisen-requires c κs = omega arith
+
+enum-told : tie.Need-enum-told
+enum-told c = search needs
+
+u64-of-u32-requires : tie.Need-u64-of-u32-requires
+u64-of-u32-requires c κs = search needs
+
+first-at-least-requires : tie.Need-first-at-least-requires
+first-at-least-requires c κs = rise (c .before)
+
+u64-of-u32-requires-2 : tie.Need-u64-of-u32-requires-2
+u64-of-u32-requires-2 c κs = search needs
+
+add-first-at-least : tie.Need-add-first-at-least
+add-first-at-least c = search needs
+
+first-at-least-requires-2 : tie.Need-first-at-least-requires-2
+first-at-least-requires-2 c κs = rise (c .before .before .before)
+
+returns-2 : tie.Need-returns-2
+returns-2 c =
+    let at = c .before .before .before .before in
+    let a = c .before .before .before .before .before .before .before .before .before .args in
+    rw (c .first-at-least2 .ensures, c .before .u64-of-u322 .ensures, c .before .before .first-at-least .ensures, c .before .before .before .u64-of-u32 .ensures)
+    (spans-ranks (a .first) (a .last) (a .list .now) (omega arith) (risen-there at) (rise at))
+
+enum-told-2 : tie.Need-enum-told-2
+enum-told-2 c = search needs
+
+returns-3 : tie.Need-returns-3
+returns-3 c =
+    let a = c .before .before .before .before .before .args in
+    let g = c .enum-told2 .given in
+    spans-none _ _ _
+    (between-unrisen (a .first) (a .last) (a .list .now) (g .0 .0) (omega arith) (sym (c .before .before .first-unrisen .ensures) ∙ ap foundPlace (g .1)))
+
+pub places-spec : {M : Type 1} → statement M
+places-spec =
+    tie.close
+    (tie.spec
+    returns
+    first-unrisen-requires
+    enum-told
+    u64-of-u32-requires
+    first-at-least-requires
+    u64-of-u32-requires-2
+    add-first-at-least
+    first-at-least-requires-2
+    returns-2
+    enum-told-2
+    returns-3)

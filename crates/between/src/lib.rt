@@ -1,0 +1,56 @@
+// Bins of one run between two numbers (document 01): a part of the caller's own list.
+ghost use mathlib.Core.Path.{_≡_};
+ghost use Rattle.model.specs.Rows.{Rise, rank};
+ghost use Rattle.model.specs.Range.{between};
+ghost use Rattle.between.specs.Places.{Spans};
+use rising::Found;
+
+// The places from `start` on and before `end`.
+pub struct Span {
+    pub start: usize,
+    pub end: usize,
+}
+
+// How many numbers of a rising list are below `v`, by halving.
+fn first_at_least(list: &[u32], v: u64) -> usize
+    requires { ⌜ Rise 0 (now list) ⌝ }
+    ensures { λ r. ⌜ r ≡ rank v (now (list .entry)) ⌝ }
+{
+    let mut lo = 0;
+    let mut hi = list.len();
+    while lo < hi {
+        let mid = lo + (hi - lo) / 2;
+        if arith::u64_of_u32(list[mid]) < v {
+            lo = mid + 1;
+        } else {
+            hi = mid;
+        }
+    }
+    lo
+}
+
+// Where the bins from `first` to `last` stand: one pass over the list, then two searches by halving. The part is empty where `first` is above `last` or
+// the list does not rise.
+pub fn places(list: &[u32], first: u32, last: u32) -> Span
+    ensures { λ r. ⌜ Spans first last (now (list .entry)) r ⌝ }
+{
+    if last < first {
+        return Span { start: 0, end: 0 };
+    }
+    if let Found::Nothing = rising::first_unrisen(list, 0) {
+        let start = first_at_least(list, arith::u64_of_u32(first));
+        let end = first_at_least(list, arith::u64_of_u32(last) + 1);
+        return Span { start, end };
+    }
+    Span { start: 0, end: 0 }
+}
+
+// The bins from `first` to `last`, as a part of the list itself.
+pub fn between(list: &[u32], first: u32, last: u32) -> &[u32]
+    ensures { λ r. ⌜ now r ≡ between first last (now (list .entry)) ⌝ }
+{
+    let span = places(list, first, last);
+    let start = span.start;
+    let end = span.end;
+    &list[start..end]
+}

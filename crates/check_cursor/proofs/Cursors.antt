@@ -1,0 +1,23 @@
+-- A cursor's place and bin. Assumes nothing.
+use Prim.Native.Nat.{ℕ, _+_, _-_, _*_, _/_, _%_, _<_}
+use mathlib.Core.Path.{_≡_, refl}
+use native.Mathlib.Omega.{arith}
+use Rattle.check_cursor.specs.Cursors.{placeOf, binOf}
+
+-- ---- a cursor
+
+pub place-at : (b p c : ℕ) → p < 2097152 → c ≡ b * 2097152 + p → placeOf c ≡ p
+unfolding placeOf
+place-at b p c h e = omega arith
+
+pub bin-at : (b p c : ℕ) → p < 2097152 → c ≡ b * 2097152 + p → binOf c ≡ b
+unfolding binOf
+bin-at b p c h e = omega arith
+
+pub place-is : (c : ℕ) → c % 2097152 ≡ placeOf c
+unfolding placeOf
+place-is c = refl
+
+pub bin-is : (c : ℕ) → c / 2097152 ≡ binOf c
+unfolding binOf
+bin-is c = refl

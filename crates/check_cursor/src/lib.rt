@@ -1,0 +1,54 @@
+// One cursor for each run, which never goes back: the numbers before it are below every bin that is still uncovered.
+ghost use mathlib.Core.Path.{_≡_};
+ghost use Prim.Native.Nat.{_≤_, _<_};
+ghost use lib.ListN.{length};
+ghost use Rattle.model.specs.Runs.{slice};
+ghost use Rattle.model.specs.Walk.{headOf};
+ghost use Rattle.check_cursor.specs.Cursors.{placeOf, binOf, Cursors, Begins};
+
+// A cursor of a run: a bin × 2097152 + a place. The run has no number that is still uncovered before the place, and the bin is the number at the place, or
+// the number after the last bin at the run's end.
+pub fn cursor_at(bin: u64, place: usize) -> u64
+    requires { ⌜ (bin ≤ 4294967296) × (place < 2097152) ⌝ }
+    ensures { λ r. ⌜ (placeOf r ≡ place) × (binOf r ≡ bin) ⌝ }
+{
+    bin * 2097152 + place as u64
+}
+
+pub fn place_of(cursor: u64) -> usize
+    ensures { λ r. ⌜ r ≡ placeOf cursor ⌝ }
+{
+    (cursor % 2097152) as usize
+}
+
+pub fn bin_of(cursor: u64) -> u64
+    ensures { λ r. ⌜ r ≡ binOf cursor ⌝ }
+{
+    cursor / 2097152
+}
+
+// The number at a place of a run that ends at `end`, or the number after the last bin at its end.
+pub fn number_at(numbers: &[u32], place: usize, end: usize) -> u64
+    requires { ⌜ (place ≤ end) × (end ≤ length (now numbers)) ⌝ }
+    ensures { λ r. ⌜ r ≡ headOf (slice (now (numbers .entry)) place end) ⌝ }
+{
+    if place < end {
+        return arith::u64_of_u32(numbers[place]);
+    }
+    4294967296
+}
+
+// Puts each run's cursor at its first number.
+pub fn begin(numbers: &[u32], ends: &[u32], cursors: &mut [u64])
+    requires { ⌜ Begins (now numbers) (now ends) (now cursors) ⌝ }
+    ensures { λ _. ⌜ Cursors (now (numbers .entry)) (now (ends .entry)) (now (cursors .exit)) 0 ⌝ }
+{
+    let mut start: usize = 0;
+    let mut i: usize = 0;
+    while i < ends.len() {
+        let end = arith::usize_of_u32(ends[i]);
+        cursors[i] = cursor_at(number_at(numbers, start, end), start);
+        start = end;
+        i += 1;
+    }
+}

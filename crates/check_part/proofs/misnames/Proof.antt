@@ -1,0 +1,40 @@
+-- `misnames` tests a mask. Assumes nothing.
+use mathlib.Core.Path.{_≡_, refl, sym, ap, _∙_, subst}
+use native.Mathlib.Omega.{arith}
+use Rattle.check_part.proofs.Testing.{misnames-few, misnames-other}
+use borrow.Author.Needs.{needs}
+use Rattle.check_part.proofs.misnames.Statement.{statement}
+use Rattle.check_part.proofs.misnames.Tie as tie
+
+cast-names-only-below : tie.Need-cast-names-only-below
+cast-names-only-below c = search needs
+
+names-only-below-requires : tie.Need-names-only-below-requires
+names-only-below-requires c κs = search needs
+
+ones-of-requires : tie.Need-ones-of-requires
+ones-of-requires c κs = search needs
+
+usize-of-u32-requires : tie.Need-usize-of-u32-requires
+usize-of-u32-requires c κs = search needs
+
+returns : tie.Need-returns
+returns c =
+    let n = c .before .before .before .names-only-below in
+    misnames-few _ (c .usize-of-u32 .result) _ (c .before .before .before .before .args .few) (sym (n .ensures) ∙ c .before .before .if1 .taken) (c .usize-of-u32 .ensures ∙ c .before .ones-of .ensures)
+
+returns-2 : tie.Need-returns-2
+returns-2 c =
+    let n = c .before .names-only-below in
+    misnames-other _ _ (sym (n .ensures) ∙ c .if1 .left)
+
+pub misnames-spec : {M : Type 1} → statement M
+misnames-spec =
+    tie.close
+    (tie.spec
+    cast-names-only-below
+    names-only-below-requires
+    ones-of-requires
+    usize-of-u32-requires
+    returns
+    returns-2)

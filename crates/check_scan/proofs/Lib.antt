@@ -1,0 +1,4 @@
+pub mod Moving
+pub mod Naming
+pub mod Reaching
+pub mod Scanning

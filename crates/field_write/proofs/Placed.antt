@@ -1,0 +1,43 @@
+-- Bytes placed in a buffer: what a run of stores leaves; the length stays; bytes placed after bytes, and after what was written at the front.
+-- Assumes nothing.
+use Prim.Native.Nat.{ℕ, suc, _+_, _≤_}
+use lib.ListN.{length, drop, set, length-append, length-drop}
+use lib.Seq.{sets, sets-eq, length-sets, take-append-seam, drop-append-add, drop-drop}
+use mathlib.Core.List.{List, [], _∷_, _++_}
+use mathlib.Core.Path.{_≡_}
+use native.Mathlib.Nat.{add-zero}
+use native.Mathlib.Omega.{arith}
+use Rattle.model.specs.Refusals.{over}
+use Rattle.field_write.specs.Stored.{placed}
+
+pub placed-sets : (vs l : List ℕ) (at : ℕ) → at + length vs ≤ length l → sets l at vs ≡ placed l at vs
+unfolding placed
+placed-sets = sets-eq
+
+pub placed-length : (vs l : List ℕ) (at : ℕ) → at + length vs ≤ length l → length (placed l at vs) ≡ length l
+placed-length vs l at h = rw (← placed-sets vs l at h) (length-sets l at vs)
+
+sets-append : (xs ys l : List ℕ) (at : ℕ) → sets (sets l at xs) (at + length xs) ys ≡ sets l at (xs ++ ys)
+sets-append [] ys l at = rw add-zero
+sets-append (x ∷ xs) ys l at =
+    let e : at + suc (length xs) ≡ suc at + length xs = omega arith in rw e (sets-append xs ys (set l at x) (suc at))
+
+-- bytes placed right after bytes that were placed
+pub placed-then : (l : List ℕ) {l₁ l₂ : List ℕ} (xs ys : List ℕ) (at next : ℕ) → l₁ ≡ placed l at xs → l₂ ≡ placed l₁ next ys
+    → at + length xs ≡ next → next + length ys ≤ length l → l₂ ≡ placed l at (xs ++ ys)
+placed-then l {l₁} {l₂} xs ys at next p q e h =
+    let n = length-append xs ys in
+    let i : at + length xs ≤ length l = omega arith in
+    let m = placed-length xs l at i in
+    rw (q, p)
+    (rw (← placed-sets ys (placed l at xs) next (omega arith), ← placed-sets xs l at i, ← placed-sets (xs ++ ys) l at (omega arith), ← e)
+    (sets-append xs ys l at))
+
+pub over-length : (written l : List ℕ) → length written ≤ length l → length (over written l) ≡ length l
+unfolding over
+over-length written l h = omega (arith, length-append written (drop (length written) l), length-drop (length written) l)
+
+-- bytes placed right after what was written at the front
+pub placed-over : (written vs l : List ℕ) → placed (over written l) (length written) vs ≡ over (written ++ vs) l
+unfolding placed over
+placed-over written vs l = rw (take-append-seam, drop-append-add, drop-drop, length-append)

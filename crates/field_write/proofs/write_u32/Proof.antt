@@ -1,0 +1,69 @@
+-- `fields::write_u32` meets its contract: the four stores are the four bytes placed.
+-- Assumes nothing.
+use borrow.Author.Needs.{needs}
+use denote.Ref.{now}
+use lib.ListN.{length-set}
+use native.Mathlib.Numerals.{towards-suc}
+use native.Mathlib.Omega.{arith}
+use Rattle.model.specs.Certificate.{bytesOf}
+use Rattle.field_write.proofs.Placed.{placed-sets}
+use Rattle.field_write.proofs.write_u32.Statement.{statement}
+use Rattle.field_write.proofs.write_u32.Tie as tie
+
+cast-certificate : tie.Need-cast-certificate
+cast-certificate c = search needs
+
+slice-write-certificate : tie.Need-slice-write-certificate
+slice-write-certificate c = search needs
+
+cast-certificate-2 : tie.Need-cast-certificate-2
+cast-certificate-2 c = search needs
+
+add-certificate : tie.Need-add-certificate
+add-certificate c = search needs
+
+slice-write-certificate-2 : tie.Need-slice-write-certificate-2
+slice-write-certificate-2 c = simp length-set (omega arith)
+
+cast-certificate-3 : tie.Need-cast-certificate-3
+cast-certificate-3 c = search needs
+
+add-certificate-2 : tie.Need-add-certificate-2
+add-certificate-2 c = search needs
+
+slice-write-certificate-3 : tie.Need-slice-write-certificate-3
+slice-write-certificate-3 c = simp length-set (omega arith)
+
+cast-certificate-4 : tie.Need-cast-certificate-4
+cast-certificate-4 c = search needs
+
+add-certificate-3 : tie.Need-add-certificate-3
+add-certificate-3 c = search needs
+
+slice-write-certificate-4 : tie.Need-slice-write-certificate-4
+slice-write-certificate-4 c = simp length-set (omega arith)
+
+same-length : tie.Need-same-length
+same-length c = search needs
+
+returns : tie.Need-returns
+unfolding bytesOf
+returns c = rw (← placed-sets (bytesOf 4 (c .args .x)) (now (c .args .certificate)) (c .args .at) (omega arith)) (simp towards-suc)
+
+pub write-u32-spec : {M : Type 1} → statement M
+write-u32-spec =
+    tie.close
+    (tie.spec
+    cast-certificate
+    slice-write-certificate
+    cast-certificate-2
+    add-certificate
+    slice-write-certificate-2
+    cast-certificate-3
+    add-certificate-2
+    slice-write-certificate-3
+    cast-certificate-4
+    add-certificate-3
+    slice-write-certificate-4
+    same-length
+    returns)

@@ -1,4 +1,0 @@
-pub mod Bytes
-pub mod Placed
-pub mod Reading
-pub mod Stored

@@ -1,0 +1,147 @@
+-- What the parts of `parse` come to: line 1, the lines after it, and the limit of bytes. Assumes nothing.
+use Prim.Native.Nat.{ℕ, suc, _+_, _-_, _≤_, _<_}
+use borrow.Author.Tests.{lt-ltb, le-ltb}
+use lib.ListN.{length, take, drop}
+use lib.Seq.{sets, sets-eq, take-all}
+use mathlib.Core.Bool.{Bool, true, false}
+use mathlib.Core.List.{List, [], _∷_, _++_}
+use mathlib.Core.Logic.{_≢_}
+use mathlib.Core.Path.{_≡_, refl, sym, ap, _∙_, subst⁻¹}
+use native.Mathlib.Omega.{arith}
+use Rattle.model.specs.Refusals.{over}
+use Rattle.hits_input.specs.Input.{mostBytes, heading, noHeading, headingOf, Lines, runsAre, faultAt, Limits, linesFrom, limited, row, endsFrom, question, refused, resultOf, parseLines, parse}
+use Rattle.text_read.specs.Pieces.{split, until}
+use Rattle.hits_lines.specs.Lines.{scanned, Within, within, runsIn, linesAt, Readable, Stored}
+use Rattle.hits_parse.specs.Parsed.{Returns}
+use Rattle.hits_lines.specs.declared.Scan.the-variants.{Runs, Fault}
+use Rattle.text_read.proofs.Pieces.{split-last, split-cases, split-found}
+
+-- ---- the scan's answer
+
+scan-fault : (lines : Lines) {line : ℕ} → Fault line ≡ scanned 0 0 lines → lines ≡ faultAt line
+unfolding scanned
+scan-fault (runsAre rs) e = let z : _≡_ {A = ℕ} 0 1 = cc in absurd (omega arith)
+scan-fault (faultAt line) e = cc
+
+limited-fault : (longer : Bool) (line : ℕ) → limited longer (faultAt line) ≡ faultAt line
+unfolding limited
+limited-fault true line = refl
+limited-fault false line = refl
+
+record Scanned (lines : Lines) (i n : ℕ) : Type 0 where
+  no-fault : lines ≡ runsAre (runsIn lines)
+  runs-are : i ≡ length (runsIn lines)
+  numbers-are : n ≡ length (row (runsIn lines))
+
+scan-runs : (lines : Lines) {i n : ℕ} → Runs i n ≡ scanned 0 0 lines → Scanned lines i n
+unfolding scanned runsIn
+scan-runs (runsAre rs) {i} {n} e =
+    let p : i ≡ 0 + length rs = cc in
+    let q : n ≡ 0 + length (row rs) = cc in
+    record { no-fault = refl; runs-are = omega arith; numbers-are = omega arith }
+scan-runs (faultAt line) e = let z : _≡_ {A = ℕ} 0 1 = cc in absurd (omega arith)
+
+-- ---- the rows
+
+over-sets : (xs l : List ℕ) → length xs ≤ length l → sets l 0 xs ≡ over xs l
+unfolding over
+over-sets xs l h = let z : 0 + length xs ≡ length xs = omega arith in sets-eq xs l 0 (omega arith) ∙ ap (λ x. xs ++ drop x l) z
+
+ends-length : (start : ℕ) (rs : List (List ℕ)) → length (endsFrom start rs) ≡ length rs
+unfolding endsFrom
+ends-length start [] = refl
+ends-length start (run ∷ rs) = ap suc (ends-length (start + length run) rs)
+
+-- ---- line 1
+
+pub no-end : (longer : Bool) (bytes numbers ends : List ℕ) → until 10 bytes ≡ length bytes
+    → Returns (parseLines longer (split 10 bytes) numbers ends) (refused 12 1) numbers ends
+unfolding parseLines resultOf
+no-end longer bytes numbers ends e =
+    rw (split-last 10 bytes e) (record { outcome-is = refl; numbers-are = refl; ends-are = refl })
+
+module _ (longer : Bool) (bytes numbers ends : List ℕ) (end : ℕ) (e : end ≡ until 10 bytes) (h : end ≢ length bytes) where
+  pub line-inside : end < length bytes
+  line-inside = split-found 10 bytes end e h .0
+
+  parse-is : parseLines longer (split 10 bytes) numbers ends
+      ≡ resultOf (headingOf (take (end - 0) bytes)) (limited longer (linesAt (length ends) (length numbers) bytes (end + 1))) numbers ends
+  unfolding parseLines linesAt
+  parse-is =
+      let z : end ≡ end - 0 = omega arith in
+      let limits : Limits = record { runs = length ends; numbers = length numbers } in
+      ap (λ x. parseLines longer x numbers ends) (split-found 10 bytes end e h .1)
+      ∙ (split-cases 10 (drop (end + 1) bytes)
+      (λ x. parseLines longer (take end bytes ∷ x) numbers ends ≡ resultOf (headingOf (take end bytes)) (limited longer (linesFrom limits 0 0 x)) numbers ends)
+      (λ line lines. refl)
+      ∙ ap (λ x. resultOf (headingOf (take x bytes)) (limited longer (linesFrom limits 0 0 (split 10 (drop (end + 1) bytes)))) numbers ends) z)
+
+  pub no-heading : headingOf (take (end - 0) bytes) ≡ noHeading → Returns (parseLines longer (split 10 bytes) numbers ends) (refused 12 1) numbers ends
+  unfolding resultOf
+  no-heading q =
+      subst⁻¹ (λ r. Returns r (refused 12 1) numbers ends) (parse-is ∙ ap (λ x. resultOf x (limited longer (linesAt (length ends) (length numbers) bytes (end + 1))) numbers ends) q)
+      (record { outcome-is = refl; numbers-are = refl; ends-are = refl })
+
+  module _ {t allowance : ℕ} (q : headingOf (take (end - 0) bytes) ≡ heading t allowance) where
+    result-is : (lines : Lines) → limited longer (linesAt (length ends) (length numbers) bytes (end + 1)) ≡ lines
+        → parseLines longer (split 10 bytes) numbers ends ≡ resultOf (heading t allowance) lines numbers ends
+    result-is lines r =
+        parse-is
+        ∙ (ap (λ x. resultOf x (limited longer (linesAt (length ends) (length numbers) bytes (end + 1))) numbers ends) q
+        ∙ ap (λ x. resultOf (heading t allowance) x numbers ends) r)
+
+    refused-at : {line : ℕ} → limited longer (linesAt (length ends) (length numbers) bytes (end + 1)) ≡ faultAt line
+        → Returns (parseLines longer (split 10 bytes) numbers ends) (refused 12 line) numbers ends
+    unfolding resultOf
+    refused-at {line} r =
+        subst⁻¹ (λ x. Returns x (refused 12 line) numbers ends) (result-is (faultAt line) r)
+        (record { outcome-is = refl; numbers-are = refl; ends-are = refl })
+
+    pub line-fault : {line : ℕ} → Fault line ≡ scanned 0 0 (linesAt (length ends) (length numbers) bytes (end + 1))
+        → Returns (parseLines longer (split 10 bytes) numbers ends) (refused 12 line) numbers ends
+    line-fault {line} s =
+        refused-at (ap (limited longer) (scan-fault (linesAt (length ends) (length numbers) bytes (end + 1)) s) ∙ limited-fault longer line)
+
+    module _ {i n : ℕ} (s : Runs i n ≡ scanned 0 0 (linesAt (length ends) (length numbers) bytes (end + 1))) where
+      found : Scanned (linesAt (length ends) (length numbers) bytes (end + 1)) i n
+      found = scan-runs (linesAt (length ends) (length numbers) bytes (end + 1)) s
+
+      pub too-long : longer ≡ true → Returns (parseLines longer (split 10 bytes) numbers ends) (refused 12 (i + 2)) numbers ends
+      unfolding limited
+      too-long b =
+          refused-at
+          (ap (λ x. limited x (linesAt (length ends) (length numbers) bytes (end + 1))) b
+          ∙ (ap (limited true) (found .no-fault) ∙ ap (λ x. faultAt (x + 2)) (sym (found .runs-are))))
+
+      pub readable : length bytes ≤ mostBytes → Readable bytes (end + 1) numbers ends
+      readable k = let l = line-inside in record { inside = omega arith; short = k; no-fault = found .no-fault }
+
+      pub stored : longer ≡ false → Within (length ends) (length numbers) (Runs i n) → {numbers′ ends′ : List ℕ}
+          → Stored bytes (end + 1) numbers ends numbers′ ends′ → Returns (parseLines longer (split 10 bytes) numbers ends) (question t allowance i n) numbers′ ends′
+      unfolding limited resultOf
+      stored b (within f g) {numbers′} {ends′} w =
+          let rs = runsIn (linesAt (length ends) (length numbers) bytes (end + 1)) in
+          let k = found .runs-are in
+          let m = found .numbers-are in
+          let l = ends-length 0 rs in
+          subst⁻¹ (λ x. Returns x (question t allowance i n) numbers′ ends′)
+          (result-is (runsAre rs) (ap (λ x. limited x (linesAt (length ends) (length numbers) bytes (end + 1))) b ∙ found .no-fault))
+          (record {
+            outcome-is = ap (λ x. question t allowance x n) k ∙ ap (question t allowance (length rs)) m;
+            numbers-are = w .numbers-are ∙ over-sets (row rs) numbers (omega arith);
+            ends-are = w .ends-are ∙ over-sets (endsFrom 0 rs) ends (omega arith);
+          })
+
+-- ---- the limit of bytes
+
+pub within-runs : {runs room i n : ℕ} → Within runs room (Runs i n) → i ≤ runs
+within-runs (within f g) = f
+
+module _ (input numbers ends : List ℕ) where
+  pub parse-long : 65536 < length input → parse input numbers ends ≡ parseLines true (split 10 (take (65536 - 0) input)) numbers ends
+  unfolding parse mostBytes
+  parse-long h = rw (lt-ltb 65536 (length input) h)
+
+  pub parse-short : length input ≤ 65536 → parse input numbers ends ≡ parseLines false (split 10 input) numbers ends
+  unfolding parse mostBytes
+  parse-short h = rw (le-ltb 65536 (length input) h, take-all 65536 input h)

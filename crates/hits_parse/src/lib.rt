@@ -1,0 +1,65 @@
+// The input text of the program hits (document 01, 'The program hits'): a question, or the first line at fault. A pass over the input looks for
+// a fault; only where there is none does a second pass store the runs.
+ghost use Prim.Native.Nat.{_≤_};
+ghost use lib.ListN.{length};
+ghost use Rattle.hits_input.specs.Input.{mostBytes, parseLines, parse};
+ghost use Rattle.text_read.specs.Pieces.{split};
+ghost use Rattle.hits_parse.specs.Parsed.{outcomeIs, Returns};
+use hits_line::First;
+use hits_lines::Scan;
+
+// A question with how many runs and numbers it has, or the number of the first line that cannot be read.
+pub enum Parsed {
+    Question {
+        threshold: u32,
+        allowance: u32,
+        runs: usize,
+        count: usize,
+    },
+    Faulty(usize),
+}
+
+// The first 65,536 bytes of an input, which may be longer.
+fn parse_bytes(bytes: &[u8], longer: bool, numbers: &mut [u32], ends: &mut [u32]) -> Parsed
+    requires { ⌜ length (now bytes) ≤ mostBytes ⌝ }
+    ensures { λ r. ⌜ Returns (parseLines longer (split 10 (now (bytes .entry))) (now (numbers .entry)) (now (ends .entry))) (outcomeIs r) (now (numbers .exit)) (now (ends .exit)) ⌝ }
+{
+    let end = text_read::first_of(bytes, 10);
+    if end == bytes.len() {
+        return Parsed::Faulty(1);
+    }
+    let First::Pair {
+        threshold,
+        allowance,
+    } = hits_line::read_first(&bytes[0..end])
+    else {
+        return Parsed::Faulty(1);
+    };
+    let start = end + 1;
+    match hits_lines::scan_lines(bytes, start, ends.len(), numbers.len()) {
+        Scan::Fault(line) => Parsed::Faulty(line),
+        Scan::Runs { runs, count } => {
+            if longer {
+                return Parsed::Faulty(runs + 2);
+            }
+            hits_lines::write_lines(bytes, start, numbers, ends);
+            Parsed::Question {
+                threshold: threshold,
+                allowance: allowance,
+                runs: runs,
+                count: count,
+            }
+        }
+    }
+}
+
+// The input as a question, whose numbers and ends are then stored at the front of the two rows; their lengths are the limits (1,024 and 64 in the
+// program). A faulty input leaves both rows unchanged. Linear in the input.
+pub fn parse(input: &[u8], numbers: &mut [u32], ends: &mut [u32]) -> Parsed
+    ensures { λ r. ⌜ Returns (parse (now (input .entry)) (now (numbers .entry)) (now (ends .entry))) (outcomeIs r) (now (numbers .exit)) (now (ends .exit)) ⌝ }
+{
+    if 65536 < input.len() {
+        return parse_bytes(&input[0..65536], true, numbers, ends);
+    }
+    parse_bytes(input, false, numbers, ends)
+}

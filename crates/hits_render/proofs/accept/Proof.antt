@@ -1,0 +1,78 @@
+-- `render::accept` lays the lines of the parts, and then the line `done`. Assumes nothing.
+use borrow.Author.Needs.{needs}
+use Rattle.model.proofs.FirstChecks.{fits}
+use Rattle.hits_render.proofs.Fitting.{shows-laid}
+use Rattle.hits_render.proofs.Texts.{done-laid, accept-whole}
+use Rattle.hits_render.proofs.accept.Statement.{statement}
+use Rattle.hits_render.proofs.accept.Tie as tie
+
+least-requires : tie.Need-least-requires
+least-requires c κs = search needs
+
+sub-put-parts : tie.Need-sub-put-parts
+sub-put-parts c = search needs
+
+part-put-parts-start : tie.Need-part-put-parts-start
+part-put-parts-start c = search needs
+
+part-put-parts-end : tie.Need-part-put-parts-end
+part-put-parts-end c = search needs
+
+put-parts-requires : tie.Need-put-parts-requires
+put-parts-requires c κs = search needs
+
+slice-aggregate-put-three : tie.Need-slice-aggregate-put-three
+slice-aggregate-put-three c = search needs
+
+u64-of-usize-requires : tie.Need-u64-of-usize-requires
+u64-of-usize-requires c κs = search needs
+
+u64-of-usize-requires-2 : tie.Need-u64-of-usize-requires-2
+u64-of-usize-requires-2 c κs = search needs
+
+u64-of-u32-requires : tie.Need-u64-of-u32-requires
+u64-of-u32-requires c κs = search needs
+
+put-three-requires : tie.Need-put-three-requires
+put-three-requires c κs = search needs
+
+shown-requires : tie.Need-shown-requires
+shown-requires c κs = search needs
+
+same-length : tie.Need-same-length
+same-length c = search needs
+
+returns : tie.Need-returns
+returns c =
+    let line = c .before .before .before in
+    let counts = line .before in
+    let lines = counts .before .before .before .before .before .before .before in
+    let size = lines .before .before .before in
+    let u = size .before .before .before in
+    let a = u .args in
+    let s =
+    shows-laid
+    (done-laid (a .answers) (a .parts) (a .bytes) (a .probes) (a .certificate .now) (size .least .ensures) (lines .put-parts .ensures)
+    (counts .before .before .u64-of-usize .ensures) (counts .before .u64-of-usize2 .ensures) (counts .u64-of-u32 .ensures) (line .put-three .ensures))
+    (c .shown .ensures) in
+    let f = fits 256 (a .certificate .now) (λ i. size .before .before .shared-slice-known .given i .fits) in
+    let n = u .fits in
+    (s, accept-whole (a .answers) (a .parts) (a .bytes) (a .probes) (a .certificate .now) f (n .answers .fits) (n .parts .fits) (n .probes .fits) s)
+
+pub accept-spec : {M : Type 1} → statement M
+accept-spec =
+    tie.close
+    (tie.spec
+    least-requires
+    sub-put-parts
+    part-put-parts-start
+    part-put-parts-end
+    put-parts-requires
+    slice-aggregate-put-three
+    u64-of-usize-requires
+    u64-of-usize-requires-2
+    u64-of-u32-requires
+    put-three-requires
+    shown-requires
+    same-length
+    returns)

@@ -1,0 +1,25 @@
+-- A mask with a run's bit set, and the lowest and the highest run of a mask. Definitions only.
+use Prim.Native.Nat.{ℕ, _+_, _^_, _<_}
+use lib.Bits.{bitOr}
+use mathlib.Core.Path.{_≡_}
+use Rattle.model.specs.Runs.{bit, maskBits}
+
+-- the mask that names what m names, and run i
+unfoldable pub withRun : ℕ → ℕ → ℕ
+withRun m i = bitOr m (2 ^ i)
+
+-- r is the lowest run that m names
+pub record Lowest (m r : ℕ) : Type 0 where
+  pub here : bit m r ≡ 1
+  pub none-before : (i : ℕ) → i < r → bit m i ≡ 0
+  pub small : r < maskBits
+
+-- r names what m names but its lowest run
+pub record LowestGone (m r : ℕ) : Type 0 where
+  pub gone : (i : ℕ) → Lowest m i → r + 2 ^ i ≡ m
+
+-- r is the highest run that m names
+pub record Highest (m r : ℕ) : Type 0 where
+  pub here : bit m r ≡ 1
+  pub none-after : (i : ℕ) → r < i → bit m i ≡ 0
+  pub small : r < maskBits

@@ -1,0 +1,84 @@
+// Masks: a 64-bit number in which bit i speaks of run i, bit 0 being the lowest.
+ghost use mathlib.Core.Path.{_≡_};
+ghost use Prim.Native.Nat.{_+_, _-_, _/_, _^_, _≤_, _<_};
+ghost use lib.Count.{ones};
+ghost use lib.Dec.{eqb};
+ghost use Rattle.model.specs.Runs.{bit, maskBits};
+ghost use Rattle.mask.specs.Mask.{withRun, Lowest, LowestGone, Highest};
+
+// The mask that names `run` too.
+pub fn with_run(mask: u64, run: u32) -> u64
+    requires { ⌜ run < maskBits ⌝ }
+    ensures { λ r. ⌜ r ≡ withRun mask run ⌝ }
+{
+    mask | (1u64 << run)
+}
+
+// Whether the mask names `run`.
+pub fn names_run(mask: u64, run: u32) -> bool
+    requires { ⌜ run < maskBits ⌝ }
+    ensures { λ r. ⌜ r ≡ eqb (bit mask run) 1 ⌝ }
+{
+    (mask >> run) % 2 == 1
+}
+
+// Whether the mask names no run from `k` on.
+pub fn names_only_below(mask: u64, k: u32) -> bool
+    requires { ⌜ k ≤ maskBits ⌝ }
+    ensures { λ r. ⌜ r ≡ eqb (mask / 2 ^ k) 0 ⌝ }
+{
+    if k == 64 {
+        return true;
+    }
+    mask >> k == 0
+}
+
+// How many runs the mask names.
+pub fn ones_of(mask: u64) -> u32
+    ensures { λ r. ⌜ r ≡ ones mask ⌝ }
+{
+    u64::count_ones(mask)
+}
+
+// The lowest run that the mask names.
+pub fn lowest_run(mask: u64) -> u32
+    requires { ⌜ 0 < mask ⌝ }
+    ensures { λ r. ⌜ Lowest mask r ⌝ }
+{
+    u64::trailing_zeros(mask)
+}
+
+// The mask that names its lowest run no more.
+pub fn without_lowest(mask: u64) -> u64
+    requires { ⌜ 0 < mask ⌝ }
+    ensures { λ r. ⌜ LowestGone mask r ⌝ }
+{
+    mask & (mask - 1)
+}
+
+// The highest run that the mask names.
+pub fn highest_run(mask: u64) -> u32
+    requires { ⌜ 0 < mask ⌝ }
+    ensures { λ r. ⌜ Highest mask r ⌝ }
+{
+    63 - u64::leading_zeros(mask)
+}
+
+// The mask that names `run` no more.
+pub fn without_run(mask: u64, run: u32) -> u64
+    requires { ⌜ (run < maskBits) × (bit mask run ≡ 1) ⌝ }
+    ensures { λ r. ⌜ r + 2 ^ run ≡ mask ⌝ }
+{
+    mask - (1u64 << run)
+}
+
+// The mask that names all the runs below `k`.
+pub fn all_runs(k: usize) -> u64
+    requires { ⌜ k ≤ maskBits ⌝ }
+    ensures { λ r. ⌜ r ≡ 2 ^ k - 1 ⌝ }
+{
+    if k == 64 {
+        return 18446744073709551615;
+    }
+    (1u64 << k) - 1
+}

@@ -1,0 +1,35 @@
+-- Lists and rows of numbers in order, and runs counted by their heads: terms in which the code's contracts speak. Definitions only.
+use Prim.Native.Nat.{ℕ, suc, _≤_, _<_}
+use mathlib.Core.Bool.{true, false}
+use mathlib.Core.List.{List, [], _∷_}
+use lib.Dec.{ltb, eqb}
+use Rattle.model.specs.Runs.{Run, pastBin, count}
+use Rattle.model.specs.Walk.{head}
+
+-- bins that rise, the first of them not below a
+pub data Rise : ℕ → List ℕ → Type 0 where
+  rise-nil : {a : ℕ} → Rise a []
+  rise-cons : {a x : ℕ} {s : List ℕ} → a ≤ x → x < pastBin → Rise (suc x) s → Rise a (x ∷ s)
+
+-- the numbers of a list from v on
+unfoldable pub from : ℕ → List ℕ → List ℕ
+from v [] = []
+from v (x ∷ s) = elim (ltb x v) [ true ↦ from v s | false ↦ x ∷ s ]
+
+-- how many numbers stand before those; document 003's insertion rank less one
+unfoldable pub rank : ℕ → List ℕ → ℕ
+rank v [] = 0
+rank v (x ∷ s) = elim (ltb x v) [ true ↦ suc (rank v s) | false ↦ 0 ]
+
+-- numbers in rising order, the first of them not below a; equal ones may follow one another
+pub data Ordered : ℕ → List ℕ → Type 0 where
+  ordered-nil : {a : ℕ} → Ordered a []
+  ordered-cons : {a x : ℕ} {s : List ℕ} → a ≤ x → Ordered x s → Ordered a (x ∷ s)
+
+-- how many heads are below h
+unfoldable pub below : ℕ → List Run → ℕ
+below h rs = count (λ r. ltb (head r) h) rs
+
+-- how many heads equal v
+unfoldable pub equal : ℕ → List Run → ℕ
+equal v rs = count (λ r. eqb (head r) v) rs

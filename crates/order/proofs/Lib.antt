@@ -1,3 +1,0 @@
-pub mod Carrying
-pub mod Laws
-pub mod Row

@@ -1,9 +1,0 @@
-pub mod Headings
-pub mod Instances
-pub mod Lines
-pub mod Parsing
-pub mod Pieces
-pub mod Split
-pub mod Values
-pub mod Words
-pub mod Writing

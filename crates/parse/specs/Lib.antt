@@ -1,3 +1,0 @@
-pub mod Instances
-pub mod Steps
-pub mod Text

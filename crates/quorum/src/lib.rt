@@ -1,0 +1,126 @@
+// The C boundary, `include/quorum.h`: each call writes what it returns into a row of 64-bit numbers.
+ghost use mathlib.Core.Path.{_≡_};
+ghost use Rattle.model.specs.Refusals.{query, check};
+ghost use Rattle.query.specs.Outcomes.{outcomeIs};
+ghost use Rattle.bound.specs.Bound.{probeBound};
+ghost use Rattle.quorum.specs.Results.{outcomeRow, writtenOf, verdictRow, boundRow, PartRow};
+use bound::Bound;
+use checker::Verdict;
+use query::Outcome;
+
+// The parts that stand where a question is refused: none before the walk, and else the place.
+fn written(number: u8, place: usize) -> u64
+    ensures { λ r. ⌜ r ≡ writtenOf number place ⌝ }
+{
+    if number < 5 {
+        return 0;
+    }
+    arith::u64_of_usize(place)
+}
+
+// An outcome as a row.
+fn put_outcome(outcome: Outcome, result: &mut [u64; 6])
+    ensures { λ r. ⌜ now (result .exit) ≡ outcomeRow (outcomeIs outcome) ⌝ }
+{
+    match outcome {
+        Outcome::Accepted {
+            answers,
+            parts,
+            bytes,
+            probes,
+        } => {
+            *result = [
+                0,
+                0,
+                arith::u64_of_usize(answers),
+                arith::u64_of_usize(parts),
+                arith::u64_of_usize(bytes),
+                arith::u64_of_u32(probes),
+            ];
+        }
+        Outcome::Refused {
+            number,
+            place,
+            answers,
+            bytes,
+            probes,
+        } => {
+            *result = [
+                number as u64,
+                arith::u64_of_usize(place),
+                arith::u64_of_usize(answers),
+                written(number, place),
+                arith::u64_of_usize(bytes),
+                arith::u64_of_u32(probes),
+            ];
+        }
+    }
+}
+
+#[no_mangle]
+pub extern "C" fn quorum_query(
+    numbers: &[u32],
+    ends: &[u32],
+    threshold: u32,
+    allowance: u32,
+    answers: &mut [u32],
+    certificate: &mut [u8],
+    result: &mut [u64; 6],
+)
+    ensures row { λ r. ⌜ now (result .exit) ≡ outcomeRow (query (now (numbers .entry)) (now (ends .entry)) threshold allowance (now (answers .entry)) (now (certificate .entry)) .outcome) ⌝ }
+    ensures answered { λ r. ⌜ now (answers .exit) ≡ query (now (numbers .entry)) (now (ends .entry)) threshold allowance (now (answers .entry)) (now (certificate .entry)) .answers ⌝ }
+    ensures certified { λ r. ⌜ now (certificate .exit) ≡ query (now (numbers .entry)) (now (ends .entry)) threshold allowance (now (answers .entry)) (now (certificate .entry)) .certificate ⌝ }
+{
+    let outcome = query::query(numbers, ends, threshold, allowance, answers, certificate);
+    put_outcome(outcome, result);
+}
+
+#[no_mangle]
+pub extern "C" fn quorum_check(
+    numbers: &[u32],
+    ends: &[u32],
+    threshold: u32,
+    certificate: &[u8],
+    result: &mut [u64; 4],
+)
+    ensures { λ r. ⌜ now (result .exit) ≡ verdictRow (check (now (numbers .entry)) (now (ends .entry)) threshold (now (certificate .entry))) ⌝ }
+{
+    match checker::check(numbers, ends, threshold, certificate) {
+        Verdict::Valid { answers, parts } => {
+            *result = [
+                0,
+                0,
+                arith::u64_of_usize(answers),
+                arith::u64_of_usize(parts),
+            ];
+        }
+        Verdict::Invalid { number, place } => {
+            *result = [number as u64, arith::u64_of_usize(place), 0, 0];
+        }
+    }
+}
+
+#[no_mangle]
+pub extern "C" fn quorum_between(list: &[u32], first: u32, last: u32, part: &mut [u64; 2])
+    ensures { λ r. ⌜ PartRow first last (now (list .entry)) (now (part .exit)) ⌝ }
+{
+    let span = between::places(list, first, last);
+    *part = [
+        arith::u64_of_usize(span.start),
+        arith::u64_of_usize(span.end),
+    ];
+}
+
+#[no_mangle]
+pub extern "C" fn quorum_probe_bound(ends: &[u32], parts: u32, result: &mut [u64; 3])
+    ensures { λ r. ⌜ now (result .exit) ≡ boundRow (probeBound (now (ends .entry)) parts) ⌝ }
+{
+    match bound::probe_bound(ends, parts) {
+        Bound::Sum(sum) => {
+            *result = [0, 0, sum];
+        }
+        Bound::Refused { number, place } => {
+            *result = [number as u64, arith::u64_of_usize(place), 0];
+        }
+    }
+}

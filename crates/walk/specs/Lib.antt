@@ -1,3 +1,0 @@
-pub mod Anew
-pub mod Moves
-pub mod State

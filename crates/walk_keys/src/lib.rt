@@ -1,0 +1,52 @@
+// A row of keys in rising order, kept at the end of a lent slice, from `start` on, as it is read. A key is head × 256 + run.
+ghost use mathlib.Core.Path.{_≡_};
+ghost use Prim.Native.Nat.{_+_, _*_, _^_, _≤_, _<_};
+ghost use lib.ListN.{length, take, drop};
+ghost use Rattle.walk_keys.specs.Row.{belowCount, labelSum, Labels, nthHead};
+ghost use Rattle.model.specs.Runs.{maskBits};
+
+// How many keys are below a limit, and the mask of their runs.
+pub struct Below {
+    pub count: usize,
+    pub named: u64,
+}
+
+// The key of a run with this head.
+pub fn key(h: u32, run: u32) -> u64
+    ensures { λ r. ⌜ r ≡ h * 256 + run ⌝ }
+{
+    (h as u64) * 256 + (run as u64)
+}
+
+// The head of the t-th key of the row, counted from one.
+pub fn nth_head(keys: &[u64], start: usize, t: usize) -> u64
+    requires { ⌜ (0 < t) × (start + t ≤ length (now keys)) ⌝ }
+    ensures { λ r. ⌜ r ≡ nthHead t (drop start (now (keys .entry))) ⌝ }
+{
+    keys[start + (t - 1)] / 256
+}
+
+// The keys of the row that are below `limit`: how many, and the mask of their runs.
+pub fn front(keys: &[u64], start: usize, limit: u64) -> Below
+    requires { ⌜ (start ≤ length (now keys)) × Labels (drop start (now keys)) × (labelSum (drop start (now keys)) < 2 ^ maskBits) ⌝ }
+    ensures { λ r. ⌜ (r .count ≡ belowCount limit (drop start (now (keys .entry)))) × (r .named ≡ labelSum (take (r .count) (drop start (now (keys .entry))))) ⌝ }
+{
+    let n = keys.len();
+    let mut named: u64 = 0;
+    let mut i = start;
+    while i < n {
+        let key = keys[i];
+        if limit <= key {
+            return Below {
+                count: i - start,
+                named: named,
+            };
+        }
+        named += 1u64 << (key % 256);
+        i += 1;
+    }
+    Below {
+        count: i - start,
+        named: named,
+    }
+}

@@ -1,0 +1,61 @@
+-- A question under way: what it comes to, given what is written so far and what its walk is still to do. Definitions only.
+use Prim.Native.Nat.{ℕ, zero, suc, _+_, _-_}
+use mathlib.Core.List.{List, [], _∷_}
+use lib.ListN.{length}
+use Rattle.field_write.specs.Stored.{placed}
+use Rattle.model.specs.Certificate.{answersOf, encode}
+use Rattle.model.specs.Compared.{partsOf, probesOf}
+use Rattle.model.specs.Refusals.{Room, Ended, cut, Outcome, accepted, refused, Answered}
+use Rattle.model.specs.Walk.{Event}
+
+-- what is written and made so far
+pub record Counts : Type 0 where
+  pub answers : ℕ
+  pub parts : ℕ
+  pub bytes : ℕ
+  pub probes : ℕ
+
+unfoldable pub noCounts : Counts
+noCounts = record { answers = 0; parts = 0; bytes = 0; probes = 0 }
+
+-- the outcome of a walk that ended with these counts, and of one that a refusal ended
+unfoldable pub outcomeAt : ℕ → Counts → Outcome
+outcomeAt zero c = accepted (c .answers) (c .parts) (c .bytes) (c .probes)
+outcomeAt (suc n) c = refused (suc n) (c .parts) (c .answers) (c .bytes) (c .probes)
+
+unfoldable pub ended : ℕ → Counts → List ℕ → List ℕ → Answered
+ended n c answers certificate = record { outcome = outcomeAt n c; answers = answers; certificate = certificate }
+
+-- the counts with what some events add
+unfoldable pub countsAfter : Counts → List Event → Counts
+countsAfter c es =
+    record {
+      answers = c .answers + length (answersOf (partsOf es));
+      parts = c .parts + length (partsOf es);
+      bytes = c .bytes + length (encode (partsOf es));
+      probes = c .probes + probesOf es;
+    }
+
+-- what is left of the allowance and of the buffers
+unfoldable pub roomAt : ℕ → Counts → List ℕ → List ℕ → Room
+roomAt allowance c answers certificate =
+    record { probes = allowance - c .probes; answers = length answers - c .answers; bytes = length certificate - c .bytes }
+
+-- What a question comes to from here on, with counts, the buffers as they are now, and what its walk is still to do.
+unfoldable pub finish : Counts → List ℕ → List ℕ → Ended → Answered
+finish c answers certificate e =
+    ended (e .refused) (countsAfter c (e .events)) (placed answers (c .answers) (answersOf (partsOf (e .events))))
+    (placed certificate (c .bytes) (encode (partsOf (e .events))))
+
+unfoldable pub onward : ℕ → Counts → List ℕ → List ℕ → List Event → Answered
+onward allowance c answers certificate es = finish c answers certificate (cut (roomAt allowance c answers certificate) es)
+
+-- the counts after a part, and after some probes
+unfoldable pub withAnswer : Counts → Counts
+withAnswer c = record { answers = c .answers + 1; parts = c .parts + 1; bytes = c .bytes + 15; probes = c .probes }
+
+unfoldable pub withGap : Counts → Counts
+withGap c = record { answers = c .answers; parts = c .parts + 1; bytes = c .bytes + 19; probes = c .probes }
+
+unfoldable pub withProbes : ℕ → Counts → Counts
+withProbes n c = record { answers = c .answers; parts = c .parts; bytes = c .bytes; probes = c .probes + n }

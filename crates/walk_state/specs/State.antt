@@ -1,0 +1,66 @@
+-- The state of a walk as the code holds it: a row of positions, and a row of keys in rising order, one for each run that has a head. Definitions only.
+use Prim.Native.Nat.{ℕ, zero, suc, _+_, _-_, _*_, _^_, _≤_, _<_}
+use mathlib.Core.Bool.{Bool, true, false}
+use mathlib.Core.List.{List, [], _∷_, List·Memᴰ}
+use mathlib.Core.Path.{_≡_}
+use lib.Dec.{ltb}
+use lib.ListN.{length, getD, take, drop}
+use Rattle.model.specs.Rows.{Ordered}
+use Rattle.model.specs.Runs.{Run, slice, pastBin, total, names}
+use Rattle.model.specs.Walk.{head}
+use Rattle.walk_keys.specs.Row.{insertKey, sumOf}
+
+-- the runs from label i on, each at its position
+unfoldable pub runsAt : ℕ → List ℕ → List ℕ → List ℕ → List Run
+runsAt i numbers [] ends = []
+runsAt i numbers (p ∷ positions) [] = []
+runsAt i numbers (p ∷ positions) (e ∷ ends) =
+    record { label = i; bins = slice numbers p e } ∷ runsAt (suc i) numbers positions ends
+
+-- the run where there is none
+abbrev pub noRun : Run
+noRun = record { label = 0; bins = [] }
+
+-- a run's key, and what a sum over keys adds for it: nothing where the run has no head
+unfoldable pub keyOf : Run → ℕ
+keyOf r = head r * 256 + r .label
+
+unfoldable pub weigh : (ℕ → ℕ) → Run → ℕ
+weigh g r = elim (ltb (head r) pastBin) [ true ↦ g (keyOf r) | false ↦ 0 ]
+
+-- the row of keys with the key of a run that has this head put in
+unfoldable pub putHead : ℕ → ℕ → List ℕ → List ℕ
+putHead h i row = elim (ltb h pastBin) [ true ↦ insertKey (h * 256 + i) row | false ↦ row ]
+
+-- The row is a rearrangement of the keys of the runs that have a head, in rising order: every sum over it is the sum over those runs.
+pub record InOrder (rs : List Run) (row : List ℕ) : Type 0 where
+  pub ordered : Ordered 0 row
+  pub same : (g : ℕ → ℕ) → sumOf g row ≡ total (weigh g) rs
+
+-- every position lies in its run, and every run in the numbers
+pub record Inside (numbers positions ends : List ℕ) : Type 0 where
+  pub lengths : length positions ≡ length ends
+  pub before : (i : ℕ) → i < length ends → getD positions i 0 ≤ getD ends i 0
+  pub within : (i : ℕ) → i < length ends → getD ends i 0 ≤ length numbers
+
+-- a sum over the runs that a mask does not name
+unfoldable pub notNamed : ℕ → (Run → ℕ) → Run → ℕ
+notNamed rest c r = elim (names rest r) [ true ↦ 0 | false ↦ c r ]
+
+-- the rows of positions and keys hold these runs
+pub record Holds (numbers ends positions keys : List ℕ) (start : ℕ) (rs : List Run) : Type 0 where
+  pub inside : Inside numbers positions ends
+  pub size : length keys ≡ length ends
+  pub starts : start ≤ length keys
+  pub runs-are : runsAt 0 numbers positions ends ≡ rs
+  pub order : InOrder rs (drop start keys)
+
+-- the same, where the keys of the runs that a mask names have been taken out of the row
+pub record Lacks (numbers ends positions keys : List ℕ) (start : ℕ) (rs : List Run) (named : ℕ) : Type 0 where
+  pub inside : Inside numbers positions ends
+  pub size : length keys ≡ length ends
+  pub starts : start ≤ length keys
+  pub runs-are : runsAt 0 numbers positions ends ≡ rs
+  pub ordered : Ordered 0 (drop start keys)
+  pub same : (g : ℕ → ℕ) → sumOf g (drop start keys) ≡ total (notNamed named (weigh g)) rs
+  pub only : named < 2 ^ length ends

@@ -1,0 +1,296 @@
+-- What the row of keys says of the runs: how many have a head, the t-th smallest head, and which runs have a head below a bin. Assumes nothing.
+use Prim.Native.Nat.{ℕ, zero, suc, _+_, _-_, _*_, _/_, _%_, _^_, _≤_, _<_}
+use borrow.Author.Tests.{lt-ltb, le-ltb, le-leb, lt-leb, ltb-true, ltb-false, leb-true, eq-eqb, ne-eqb}
+use lib.Dec.{ltb, leb, eqb}
+use lib.ListN.{length, getD, take, drop}
+use lib.Pow.{pow-mono}
+use lib.Seq.{take-length}
+use mathlib.Core.Bool.{Bool, true, false, not}
+use mathlib.Core.List.{List, [], _∷_, List·Memᴰ, List·Memᴰ·head, List·Memᴰ·tail}
+use mathlib.Core.Logic.{_⊎_, inl, inr, ⊎-elim}
+use mathlib.Core.Path.{_≡_, refl, sym, ap, _∙_, subst}
+use native.Mathlib.Nat.{le-antisymm}
+use native.Mathlib.Omega.{arith}
+use Rattle.model.specs.Runs.{Run, pastBin, total, one, count, mask, names}
+use Rattle.model.specs.Walk.{head, tthHead}
+use Rattle.model.proofs.Count.{total-eq, total-le, total-zero}
+use Rattle.model.specs.Rows.{below}
+use Rattle.model.proofs.Heads.{Heads, atMost, below-mono, tth-enough, tth-few}
+use Rattle.model.proofs.Masks.{Labelled, label-below, mask-only, names-mask}
+use Rattle.model.proofs.Tests.{lt-or-le, true-false}
+use Rattle.walk_keys.proofs.Row.{below-nil, below-pass, sum-one, member-sum, member-at, front-sum, rest-sum, below-sum, nth-enough, nth-few}
+use Rattle.walk_keys.specs.Row.{sumOf, belowCount, labelSum, Labels}
+use Rattle.walk_state.specs.State.{keyOf, weigh, InOrder, notNamed}
+
+-- ---- one run
+
+weigh-some : (g : ℕ → ℕ) (r : Run) → head r < pastBin → weigh g r ≡ g (keyOf r)
+unfolding weigh
+weigh-some g r h = rw (lt-ltb (head r) pastBin h, weigh)
+
+weigh-none : (g : ℕ → ℕ) (r : Run) → pastBin ≤ head r → weigh g r ≡ 0
+unfolding weigh
+weigh-none g r h = rw (le-ltb (head r) pastBin h, weigh)
+
+key-head : (r : Run) → r .label < 256 → keyOf r / 256 ≡ head r
+unfolding keyOf
+key-head r h = omega arith
+
+key-label : (r : Run) → r .label < 256 → keyOf r % 256 ≡ r .label
+unfolding keyOf
+key-label r h = omega arith
+
+key-below : (r : Run) (u : ℕ) → r .label < 256 → ltb (keyOf r) (u * 256) ≡ ltb (head r) u
+unfolding keyOf
+key-below r u h =
+    ⊎-elim
+    (λ (q : head r < u). lt-ltb (head r * 256 + r .label) (u * 256) (omega arith) ∙ sym (lt-ltb (head r) u q))
+    (λ (q : u ≤ head r). le-ltb (head r * 256 + r .label) (u * 256) (omega arith) ∙ sym (le-ltb (head r) u q))
+    (lt-or-le (head r) u)
+
+pub one-true : one true ≡ 1
+unfolding one
+one-true = refl
+
+one-false : one false ≡ 0
+unfolding one
+one-false = refl
+
+le-or-lt : (a b : ℕ) → (a ≤ b) ⊎ (b < a)
+le-or-lt a b = ⊎-elim inr inl (lt-or-le b a)
+
+picked-true : (b : Bool) (x y : ℕ) → b ≡ true → elim b as (λ z. ℕ) [ true ↦ x | false ↦ y ] ≡ x
+picked-true true x y e = refl
+picked-true false x y e = true-false e refl
+
+picked-false : (b : Bool) (x y : ℕ) → b ≡ false → elim b as (λ z. ℕ) [ true ↦ x | false ↦ y ] ≡ y
+picked-false true x y e = true-false refl e
+picked-false false x y e = refl
+
+not-named-zero : (named : ℕ) (c : Run → ℕ) (r : Run) → names named r ≡ true → notNamed named c r ≡ 0
+unfolding notNamed
+not-named-zero named c r e = rw (e, notNamed)
+
+not-named-is : (named : ℕ) (c : Run → ℕ) (r : Run) → names named r ≡ false → notNamed named c r ≡ c r
+unfolding notNamed
+not-named-is named c r e = rw (e, notNamed)
+
+module _ (rs : List Run) (labels : Labelled 0 rs) (few : length rs ≤ 64) (row : List ℕ) (order : InOrder rs row) where
+  small : (r : Run) → List·Memᴰ r rs → r .label < 64
+  small r m = let l = label-below rs labels r m in omega arith
+
+  -- a test that the key of no run passes is passed by no key
+  none-pass : (p : ℕ → Bool) → ((r : Run) → List·Memᴰ r rs → head r < pastBin → p (keyOf r) ≡ false) → (k : ℕ) → List·Memᴰ k row → p k ≡ true → ⊥
+  none-pass p h k m q =
+      let a = member-sum (λ j. one (p j)) row m in
+      let e = order .same (λ j. one (p j)) in
+      let z = total-zero (weigh (λ j. one (p j))) rs
+      (λ r n.
+      ⊎-elim
+      (λ (x : head r < pastBin). weigh-some (λ j. one (p j)) r x ∙ (ap one (h r n x) ∙ one-false))
+      (λ (x : pastBin ≤ head r). weigh-none (λ j. one (p j)) r x)
+      (lt-or-le (head r) pastBin)) in
+      let w = ap one q ∙ one-true in
+      omega arith
+
+  pub row-labels : Labels row
+  row-labels =
+      record {
+        small = λ k m.
+            ⊎-elim
+            (λ (q : k % 256 < 64). q)
+            (λ (q : 64 ≤ k % 256).
+            absurd
+            (none-pass (λ j. leb 64 (j % 256))
+            (λ r n x. let s = small r n in let e = key-label r (omega arith) in lt-leb 64 (keyOf r % 256) (omega arith)) k m (le-leb 64 (k % 256) q)))
+            (lt-or-le (k % 256) 64);
+      }
+
+  -- every key's head is a bin
+  pub row-bins : (k : ℕ) → List·Memᴰ k row → k / 256 < pastBin
+  row-bins k m =
+      ⊎-elim
+      (λ (q : k / 256 < pastBin). q)
+      (λ (q : pastBin ≤ k / 256).
+      absurd
+      (none-pass (λ j. leb pastBin (j / 256))
+      (λ r n x. let s = small r n in let e = key-head r (omega arith) in lt-leb pastBin (keyOf r / 256) (omega arith)) k m (le-leb pastBin (k / 256) q)))
+      (lt-or-le (k / 256) pastBin)
+
+  -- the keys whose head is below u
+  weigh-below : (u : ℕ) → u ≤ pastBin → (r : Run) → List·Memᴰ r rs
+      → weigh (λ k. elim (ltb k (u * 256)) as (λ x. ℕ) [ true ↦ 2 ^ (k % 256) | false ↦ 0 ]) r ≡ one (ltb (head r) u) * 2 ^ r .label
+  weigh-below u h r m =
+      let s = small r m in
+      let t = one-true in
+      let f = one-false in
+      ⊎-elim
+      (λ (q : head r < u).
+      let e : keyOf r % 256 ≡ r .label = key-label r (omega arith) in
+      weigh-some (λ k. elim (ltb k (u * 256)) as (λ x. ℕ) [ true ↦ 2 ^ (k % 256) | false ↦ 0 ]) r (omega arith)
+      ∙ (picked-true (ltb (keyOf r) (u * 256)) (2 ^ (keyOf r % 256)) 0 (key-below r u (omega arith) ∙ lt-ltb (head r) u q)
+      ∙ (ap (λ x. 2 ^ x) e ∙ (let w = ap one (lt-ltb (head r) u q) ∙ t in omega (arith, ap (λ x. x * 2 ^ r .label) w)))))
+      (λ (q : u ≤ head r).
+      let w = ap one (le-ltb (head r) u q) ∙ f in
+      (⊎-elim
+      (λ (x : head r < pastBin).
+      weigh-some (λ k. elim (ltb k (u * 256)) as (λ y. ℕ) [ true ↦ 2 ^ (k % 256) | false ↦ 0 ]) r x
+      ∙ picked-false (ltb (keyOf r) (u * 256)) (2 ^ (keyOf r % 256)) 0 (key-below r u (omega arith) ∙ le-ltb (head r) u q))
+      (λ (x : pastBin ≤ head r). weigh-none (λ k. elim (ltb k (u * 256)) as (λ y. ℕ) [ true ↦ 2 ^ (k % 256) | false ↦ 0 ]) r x)
+      (lt-or-le (head r) pastBin))
+      ∙ (omega (arith, ap (λ x. x * 2 ^ r .label) w)))
+      (lt-or-le (head r) u)
+
+  pub front-mask : (u : ℕ) → u ≤ pastBin → labelSum (take (belowCount (u * 256) row) row) ≡ mask (λ r. ltb (head r) u) rs
+  unfolding labelSum mask
+  front-mask u h =
+      front-sum (λ k. 2 ^ (k % 256)) (u * 256) row (order .ordered)
+      ∙ (order .same (λ k. elim (ltb k (u * 256)) as (λ x. ℕ) [ true ↦ 2 ^ (k % 256) | false ↦ 0 ])
+      ∙ total-eq _ (λ r. one (ltb (head r) u) * 2 ^ r .label) rs (weigh-below u h))
+
+  pub front-count : (u : ℕ) → u ≤ pastBin → belowCount (u * 256) row ≡ below u rs
+  unfolding below count
+  front-count u h =
+      below-sum (u * 256) row (order .ordered)
+      ∙ (order .same (λ k. one (ltb k (u * 256)))
+      ∙ total-eq (weigh (λ k. one (ltb k (u * 256)))) (λ r. one (ltb (head r) u)) rs
+      (λ r m.
+      let s = small r m in
+      ⊎-elim
+      (λ (x : head r < pastBin). weigh-some (λ k. one (ltb k (u * 256))) r x ∙ ap one (key-below r u (omega arith)))
+      (λ (x : pastBin ≤ head r).
+      weigh-none (λ k. one (ltb k (u * 256))) r x ∙ sym (ap one (le-ltb (head r) u (omega arith)) ∙ one-false))
+      (lt-or-le (head r) pastBin)))
+
+  -- which runs the front names, and the row without it
+  pub front-names : (u : ℕ) (r : Run) → List·Memᴰ r rs → names (mask (λ q. ltb (head q) u) rs) r ≡ ltb (head r) u
+  front-names u r m = names-mask (λ q. ltb (head q) u) 0 rs labels r m
+
+  pub rest-same : (u : ℕ) → u ≤ pastBin → (g : ℕ → ℕ)
+      → sumOf g (drop (belowCount (u * 256) row) row) ≡ total (notNamed (mask (λ q. ltb (head q) u) rs) (weigh g)) rs
+  rest-same u h g =
+      rest-sum g (u * 256) row (order .ordered)
+      ∙ (order .same (λ k. elim (ltb k (u * 256)) as (λ x. ℕ) [ true ↦ 0 | false ↦ g k ])
+      ∙ total-eq _ (notNamed (mask (λ q. ltb (head q) u) rs) (weigh g)) rs each)
+    where
+      each : (r : Run) → List·Memᴰ r rs
+          → weigh (λ k. elim (ltb k (u * 256)) as (λ x. ℕ) [ true ↦ 0 | false ↦ g k ]) r ≡ notNamed (mask (λ q. ltb (head q) u) rs) (weigh g) r
+      each r m =
+          let s = small r m in
+          ⊎-elim
+          (λ (q : head r < u).
+          weigh-some (λ k. elim (ltb k (u * 256)) as (λ x. ℕ) [ true ↦ 0 | false ↦ g k ]) r (omega arith)
+          ∙ (picked-true (ltb (keyOf r) (u * 256)) 0 (g (keyOf r)) (key-below r u (omega arith) ∙ lt-ltb (head r) u q)
+          ∙ sym (not-named-zero (mask (λ y. ltb (head y) u) rs) (weigh g) r (front-names u r m ∙ lt-ltb (head r) u q))))
+          (λ (q : u ≤ head r).
+          (⊎-elim
+          (λ (x : head r < pastBin).
+          weigh-some (λ k. elim (ltb k (u * 256)) as (λ y. ℕ) [ true ↦ 0 | false ↦ g k ]) r x
+          ∙ (picked-false (ltb (keyOf r) (u * 256)) 0 (g (keyOf r)) (key-below r u (omega arith) ∙ le-ltb (head r) u q) ∙ sym (weigh-some g r x)))
+          (λ (x : pastBin ≤ head r).
+          weigh-none (λ k. elim (ltb k (u * 256)) as (λ y. ℕ) [ true ↦ 0 | false ↦ g k ]) r x ∙ sym (weigh-none g r x))
+          (lt-or-le (head r) pastBin))
+          ∙ sym (not-named-is (mask (λ y. ltb (head y) u) rs) (weigh g) r (front-names u r m ∙ le-ltb (head r) u q)))
+          (lt-or-le (head r) u)
+
+  -- how many runs have a head
+  pub row-length : length row ≡ below pastBin rs
+  unfolding below count
+  row-length =
+      sym (sum-one row)
+      ∙ (order .same (λ k. 1)
+      ∙ total-eq (weigh (λ k. 1)) (λ r. one (ltb (head r) pastBin)) rs
+      (λ r m.
+      ⊎-elim
+      (λ (x : head r < pastBin). weigh-some (λ k. 1) r x ∙ sym (ap one (lt-ltb (head r) pastBin x) ∙ one-true))
+      (λ (x : pastBin ≤ head r). weigh-none (λ k. 1) r x ∙ sym (ap one (le-ltb (head r) pastBin x) ∙ one-false))
+      (lt-or-le (head r) pastBin)))
+
+  -- the mask of the runs that have a head
+  pub row-mask : labelSum row ≡ mask (λ r. ltb (head r) pastBin) rs
+  unfolding labelSum mask
+  row-mask =
+      order .same (λ k. 2 ^ (k % 256))
+      ∙ total-eq (weigh (λ k. 2 ^ (k % 256))) (λ r. one (ltb (head r) pastBin) * 2 ^ r .label) rs
+      (λ r m.
+      let s = small r m in
+      ⊎-elim
+      (λ (x : head r < pastBin).
+      let w = ap one (lt-ltb (head r) pastBin x) ∙ one-true in
+      weigh-some (λ k. 2 ^ (k % 256)) r x
+      ∙ (ap (λ y. 2 ^ y) (key-label r (omega arith)) ∙ omega (arith, ap (λ y. y * 2 ^ r .label) w)))
+      (λ (x : pastBin ≤ head r).
+      let w = ap one (le-ltb (head r) pastBin x) ∙ one-false in
+      weigh-none (λ k. 2 ^ (k % 256)) r x ∙ omega (arith, ap (λ y. y * 2 ^ r .label) w))
+      (lt-or-le (head r) pastBin))
+
+  pub row-sum : labelSum row < 2 ^ 64
+  row-sum = let a = mask-only (λ r. ltb (head r) pastBin) rs labels in let b = pow-mono few in let e = row-mask in omega arith
+
+  -- the t-th smallest head is that of the t-th key
+  key-at-most : (x : ℕ) → total (weigh (λ k. one (leb k x))) rs ≤ atMost (x / 256) rs
+  unfolding atMost count
+  key-at-most x =
+      total-le (weigh (λ k. one (leb k x))) (λ r. one (leb (head r) (x / 256))) rs
+      (λ r m.
+      let s = small r m in
+      let e = key-head r (omega arith) in
+      let t = one-true in
+      let f = one-false in
+      ⊎-elim
+      (λ (q : head r < pastBin).
+      let w = weigh-some (λ k. one (leb k x)) r q in
+      ⊎-elim
+      (λ (o : keyOf r ≤ x). let a = ap one (le-leb (head r) (x / 256) (omega arith)) in let b = ap one (le-leb (keyOf r) x o) in omega arith)
+      (λ (o : x < keyOf r). let b = ap one (lt-leb (keyOf r) x o) in omega arith)
+      (le-or-lt (keyOf r) x))
+      (λ (q : pastBin ≤ head r). let w = weigh-none (λ k. one (leb k x)) r q in omega arith)
+      (lt-or-le (head r) pastBin))
+
+  key-at-least : (x : ℕ) → x / 256 < pastBin → below (x / 256) rs ≤ total (weigh (λ k. one (ltb k x))) rs
+  unfolding below count
+  key-at-least x b =
+      total-le (λ r. one (ltb (head r) (x / 256))) (weigh (λ k. one (ltb k x))) rs
+      (λ r m.
+      let s = small r m in
+      let e = key-head r (omega arith) in
+      let t = one-true in
+      let f = one-false in
+      ⊎-elim
+      (λ (q : head r < x / 256).
+      let w = weigh-some (λ k. one (ltb k x)) r (omega arith) in
+      let a = ap one (lt-ltb (head r) (x / 256) q) in
+      let c = ap one (lt-ltb (keyOf r) x (omega arith)) in
+      omega arith)
+      (λ (q : x / 256 ≤ head r). let a = ap one (le-ltb (head r) (x / 256) q) in omega arith)
+      (lt-or-le (head r) (x / 256)))
+
+  pub tth-key : (t i : ℕ) → t ≡ suc i → i < length row → Heads rs → t ≤ length rs → tthHead t rs ≡ getD row i 0 / 256
+  tth-key t i e l h k =
+      let x = getD row i 0 in
+      let b = row-bins x (member-at row i l) in
+      let enough = nth-enough row (order .ordered) i l in
+      let same₁ = order .same (λ j. one (leb j x)) in
+      let most = key-at-most x in
+      let few′ = nth-few row (order .ordered) i l in
+      let same₂ = order .same (λ j. one (ltb j x)) in
+      let least = key-at-least x b in
+      let u₁ = tth-enough t rs h k in
+      let u₂ = tth-few t rs (omega arith) in
+      le-antisymm
+      (⊎-elim
+      (λ (q : x / 256 < tthHead t rs). let m = below-mono q rs in absurd (omega arith))
+      (λ (q : tthHead t rs ≤ x / 256). q)
+      (lt-or-le (x / 256) (tthHead t rs)))
+      (⊎-elim
+      (λ (q : tthHead t rs < x / 256). let m = below-mono q rs in absurd (omega arith))
+      (λ (q : x / 256 ≤ tthHead t rs). q)
+      (lt-or-le (tthHead t rs) (x / 256)))
+
+-- all keys are below the limit
+all-below : (l : ℕ) (s : List ℕ) → ((k : ℕ) → List·Memᴰ k s → k < l) → belowCount l s ≡ length s
+all-below l [] h = below-nil l
+all-below l (k ∷ s) h = below-pass l k s (h k (List·Memᴰ·head refl)) ∙ ap suc (all-below l s (λ j m. h j (List·Memᴰ·tail m)))
+
+pub whole-front : (l n : ℕ) (s : List ℕ) → ((k : ℕ) → List·Memᴰ k s → k < l) → n ≡ belowCount l s → labelSum (take n s) ≡ labelSum s
+whole-front l n s h e = ap labelSum (ap (λ x. take x s) (e ∙ all-below l s h) ∙ take-length s)

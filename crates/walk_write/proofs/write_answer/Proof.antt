@@ -1,0 +1,78 @@
+-- `write_answer` writes an answer into both buffers or into neither: 5 is met before 6. Assumes nothing.
+use mathlib.Core.Path.{sym, _∙_}
+use Rattle.walk_write.proofs.Writing.{answer-on, answer-stopped, answers-stopped}
+use borrow.Author.Needs.{needs}
+use Rattle.walk_write.proofs.write_answer.Statement.{statement}
+use Rattle.walk_write.proofs.write_answer.Tie as tie
+
+returns : tie.Need-returns
+returns c =
+    let a = c .before .before .before .args in
+    answers-stopped (a .w) (a .answers .now) (a .certificate .now) (a .named) (c .if1 .taken)
+
+write-answer-requires : tie.Need-write-answer-requires
+write-answer-requires c κs = search needs
+
+enum-known-bytes : tie.Need-enum-known-bytes
+enum-known-bytes c = search needs
+
+enum-told : tie.Need-enum-told
+enum-told c = search needs
+
+same-length : tie.Need-same-length
+same-length c = search needs
+
+returns-2 : tie.Need-returns-2
+returns-2 c =
+    let g = c .before .before .before .before in
+    let e = g .before .before in
+    let s = e .before .before .before in
+    let a = s .args in
+    answer-stopped (a .w) (a .answers .now) (a .certificate .now) (g .write-answer .last .0) (a .named) (s .pre) (e .if1 .left)
+    (sym (c .enum-told .given .1) ∙ g .write-answer .ensures .1) (g .write-answer .ensures .0)
+
+mul-answers : tie.Need-mul-answers
+mul-answers c = search needs
+
+slice-write-answers : tie.Need-slice-write-answers
+slice-write-answers c = search needs
+
+add-t7 : tie.Need-add-t7
+add-t7 c = search needs
+
+add-t13 : tie.Need-add-t13
+add-t13 c = search needs
+
+same-length-2 : tie.Need-same-length-2
+same-length-2 c = search needs
+
+same-length-3 : tie.Need-same-length-3
+same-length-3 c = search needs
+
+returns-3 : tie.Need-returns-3
+returns-3 c =
+    let b = c .before .before in
+    let g = b .before .before .before .before in
+    let e = g .before .before in
+    let s = e .before .before .before in
+    let a = s .args in
+    answer-on (a .w) (a .answers .now) (a .certificate .now) (g .write-answer .last .0) (a .named) (b .bytes .given .0 .0) (s .pre) (e .if1 .left)
+    (sym (b .bytes .given .1) ∙ g .write-answer .ensures .1) (g .write-answer .ensures .0)
+
+pub write-answer-spec : {M : Type 1} → statement M
+write-answer-spec =
+    tie.close
+    (tie.spec
+    returns
+    write-answer-requires
+    enum-known-bytes
+    enum-told
+    same-length
+    returns-2
+    mul-answers
+    slice-write-answers
+    add-t7
+    add-t13
+    same-length-2
+    same-length-3
+    returns-3)

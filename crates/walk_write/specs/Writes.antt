@@ -1,0 +1,87 @@
+-- A walk's state between its steps, and what the steps that write a part ask and give: what the question comes to stays the same. Definitions only.
+use Prim.Native.Nat.{ℕ, _+_, _-_, _^_, _≤_, _<_}
+use mathlib.Core.Bool.{true, false}
+use mathlib.Core.List.{List, [], _∷_, _++_, List·Memᴰ}
+use mathlib.Core.Path.{_≡_}
+use lib.Dec.{ltb}
+use lib.ListN.{length, drop}
+use Rattle.model.specs.Certificate.{answer, gap}
+use Rattle.model.specs.Walk.{Event, wrote}
+use Rattle.walk_keys.specs.Row.{Labels, labelSum}
+use Rattle.walk_progress.specs.Progress.{Counts, ended, onward}
+use Rattle.walk_write.specs.declared.Answered.{Answered}
+use Rattle.walk_write.specs.declared.Answered.the-variants as answered′
+use Rattle.walk_write.specs.declared.State.{State}
+use Rattle.walk_write.specs.declared.Turn.{Turn}
+use Rattle.walk_write.specs.declared.Turn.the-variants.{On, Done, Stopped}
+use Rattle.walk_write.specs.declared.Wrote.{Wrote}
+use Rattle.walk_write.specs.declared.Wrote.the-variants as wrote′
+use Rattle.model.specs.Runs.{mostRuns, lastBin}
+
+-- the counts of a state, of whose allowance so much is left
+unfoldable pub countsOf : ℕ → State → Counts
+countsOf allowance w = record { answers = w .answers; parts = w .parts; bytes = w .bytes; probes = allowance - w .left }
+
+-- what a question comes to from a state on
+unfoldable pub goesOn : ℕ → State → List ℕ → List ℕ → List Event → Rattle.model.specs.Refusals.Answered
+goesOn allowance w answers certificate es = onward allowance (countsOf allowance w) answers certificate es
+
+unfoldable pub endsWith : ℕ → ℕ → State → List ℕ → List ℕ → Rattle.model.specs.Refusals.Answered
+endsWith number allowance w answers certificate = ended number (countsOf allowance w) answers certificate
+
+-- what is written fits the buffers
+pub record Fitted (answers certificate : List ℕ) (w : State) : Type 0 where
+  pub answered : w .answers ≤ length answers
+  pub written : w .bytes ≤ length certificate
+  pub parts : w .parts ≤ w .bytes
+
+-- a part written: the certificate keeps its length, and only the counts of parts and bytes grow
+pub record Grown (w : State) (certificate : List ℕ) (w′ : State) (certificate′ : List ℕ) : Type 0 where
+  pub size : length certificate′ ≡ length certificate
+  pub floor : w′ .floor ≡ w .floor
+  pub start : w′ .start ≡ w .start
+  pub answers : w′ .answers ≡ w .answers
+  pub left : w′ .left ≡ w .left
+  pub written : w′ .bytes ≤ length certificate′
+  pub parts : w′ .parts ≤ w′ .bytes
+
+-- some events that write at most one part are done, or the part does not fit
+abbrev pub Writes : List Event → State → List ℕ → List ℕ → Wrote → Type 0
+Writes ds w certificate certificate′ (wrote′.On w′) =
+    Grown w certificate w′ certificate′
+    × ((allowance : ℕ) (answers : List ℕ) (es : List Event) → goesOn allowance w answers certificate (ds ++ es) ≡ goesOn allowance w′ answers certificate′ es)
+Writes ds w certificate certificate′ wrote′.Full =
+    (certificate′ ≡ certificate)
+    × ((allowance : ℕ) (answers : List ℕ) (es : List Event) → goesOn allowance w answers certificate (ds ++ es) ≡ endsWith 6 allowance w answers certificate)
+
+-- the gap from the floor to v − 1, where the floor is below v
+unfoldable pub gapEvents : ℕ → ℕ → ℕ → List Event
+gapEvents floor v named = elim (ltb floor v) [ true ↦ wrote (gap floor (v - 1) named) ∷ [] | false ↦ [] ]
+
+-- an answer is written, or a buffer is full
+abbrev pub Answers : State → ℕ → List ℕ → List ℕ → List ℕ → List ℕ → Answered → Type 0
+Answers w named answers certificate answers′ certificate′ (answered′.On w′) =
+    Fitted answers′ certificate′ w′ × (w′ .floor ≡ w .floor) × (w′ .start ≡ w .start) × (w′ .left ≡ w .left)
+    × ((allowance : ℕ) (es : List Event) → goesOn allowance w answers certificate (wrote (answer (w .floor) named) ∷ es) ≡ goesOn allowance w′ answers′ certificate′ es)
+Answers w named answers certificate answers′ certificate′ (answered′.Full x) =
+    (0 < x)
+    × ((allowance : ℕ) (es : List Event) → goesOn allowance w answers certificate (wrote (answer (w .floor) named) ∷ es) ≡ endsWith x allowance w answers′ certificate′)
+
+-- the row of keys names runs below the number of ends
+pub record LastReady (ends keys certificate : List ℕ) (w : State) : Type 0 where
+  pub few : length ends ≤ mostRuns
+  pub starts : w .start ≤ length keys
+  pub labels : Labels (drop (w .start) keys)
+  pub named : labelSum (drop (w .start) keys) ≤ 2 ^ length ends - 1
+  pub bins : (k : ℕ) → List·Memᴰ k (drop (w .start) keys) → k < 1099511627776
+  pub written : w .bytes ≤ length certificate
+  pub parts : w .parts ≤ w .bytes
+
+-- the last gap, which names the runs that have no key in the row
+abbrev pub LastGap : List ℕ → List ℕ → State → List ℕ → List ℕ → Turn → Type 0
+LastGap ends keys w certificate certificate′ (On w′) = ⊥
+LastGap ends keys w certificate certificate′ (Done w′) =
+    Writes (wrote (gap (w .floor) lastBin (2 ^ length ends - 1 - labelSum (drop (w .start) keys))) ∷ []) w certificate certificate′ (wrote′.On w′)
+LastGap ends keys w certificate certificate′ (Stopped x w′) =
+    (x ≡ 6) × (w′ ≡ w)
+    × Writes (wrote (gap (w .floor) lastBin (2 ^ length ends - 1 - labelSum (drop (w .start) keys))) ∷ []) w certificate certificate′ wrote′.Full
