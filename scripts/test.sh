@@ -15,7 +15,7 @@ case "$tally" in
   *) exit 1 ;;
 esac
 
-rt staticlib capi
+rt staticlib quorum
 sh examples/test.sh
 sh examples/hits/test.sh
 (cd rust && cargo fmt --check && cargo test --release --offline --quiet)
