@@ -1,11 +1,12 @@
 #!/usr/bin/env bash
-# The whole test: layout, proofs with their must-fail edits and programs, then the program hits on stored and on many
+# The whole test: layout, the names in docs/CLAIMS.md, proofs with their must-fail edits and programs, then the program hits on stored and on many
 # generated inputs, and the static library from C and from Rust. The last line is the prover's own tally, printed again only if everything else passed too.
 set -euo pipefail
 cd "$(dirname "$0")/.."
 
 rt fmt --check
 bash scripts/check_layout.sh
+bash scripts/check_claims.sh
 
 log=$(mktemp)
 trap 'rm -f "$log"' EXIT
