@@ -16,6 +16,7 @@ case "$tally" in
   *" passed, 0 failed") ;;
   *) exit 1 ;;
 esac
+bash scripts/check_edits.sh
 
 rt staticlib quorum
 sh examples/test.sh
