@@ -14,7 +14,7 @@ test:
 
 # ratios of running times, same inputs in one run
 bench:
-	@rt staticlib capi
+	@rt staticlib quorum
 	@cd rust && cargo run --release --offline --quiet -p bench
 
 fmt:

@@ -2,7 +2,7 @@
  * Asks which numbers at least two of {2, 5, 9}, {5, 7, 9, 12} and {1, 9} hold.
  * Prints the results and the parts of the certificate, as in expected.txt.
  *
- *     cc -Iinclude examples/query.c -Ltarget/staticlib -lcapi
+ *     cc -Iinclude examples/query.c -Ltarget/staticlib -lquorum
  */
 #include <inttypes.h>
 #include <stdio.h>

@@ -6,8 +6,8 @@
 set -eu
 cd "$(dirname "$0")/.."
 library_dir=${QUORUM_LIB_DIR:-target/staticlib}
-if [ ! -f "$library_dir/libcapi.a" ]; then
-    echo "$library_dir/libcapi.a is missing: run 'rt staticlib capi'" >&2
+if [ ! -f "$library_dir/libquorum.a" ]; then
+    echo "$library_dir/libquorum.a is missing: run 'rt staticlib quorum'" >&2
     exit 1
 fi
 
@@ -18,7 +18,7 @@ echo '#include "quorum.h"' >"$out/header.c"
 cp "$out/header.c" "$out/header.cc"
 ${CC:-cc} $flags -std=c99 -fsyntax-only "$out/header.c"
 ${CXX:-c++} $flags -std=c++11 -fsyntax-only "$out/header.cc"
-${CC:-cc} $flags -std=c99 examples/query.c -L"$library_dir" -lcapi -o "$out/query"
+${CC:-cc} $flags -std=c99 examples/query.c -L"$library_dir" -lquorum -o "$out/query"
 "$out/query" >"$out/printed.txt"
 diff examples/expected.txt "$out/printed.txt"
 echo "examples/query.c prints what it should"
@@ -29,6 +29,6 @@ echo "examples/query.c prints what it should"
     printf 'return !(bound[2] == 84 && result[0] == 0 && result[4] == 106 && result[5] == 3\n'
     printf '&& answers[0] == 5 && answers[1] == 9 && verdict[0] == 0 && verdict[3] == 6);\n}\n'
 } >"$out/readme.c"
-${CC:-cc} $flags -std=c99 "$out/readme.c" -L"$library_dir" -lcapi -o "$out/readme"
+${CC:-cc} $flags -std=c99 "$out/readme.c" -L"$library_dir" -lquorum -o "$out/readme"
 "$out/readme"
 echo "the C lines of the README do what they say"

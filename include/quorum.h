@@ -129,11 +129,11 @@ void quorum_check(const uint32_t *numbers, size_t numbers_len,
  *
  *     uint32_t list[] = {2, 5, 9};
  *     uint64_t part[2];
- *     quorum_range(list, 3, 3, 9, part);
+ *     quorum_between(list, 3, 3, 9, part);
  *     // part: 1, 3
  */
-void quorum_range(const uint32_t *list, size_t list_len, uint32_t first,
-                  uint32_t last, uint64_t part[2]);
+void quorum_between(const uint32_t *list, size_t list_len, uint32_t first,
+                    uint32_t last, uint64_t part[2]);
 
 /**
  * Sum up 2 * parts * (binary digits of the run's length) over the runs. If some

@@ -1,10 +1,12 @@
 #!/usr/bin/env bash
-# The whole test: layout, proofs with their must-fail edits and programs, then the program hits on stored and on many generated inputs, and the static
-# library from C and from Rust. The last line is the prover's own tally, printed again only if everything else passed too.
+# The whole test: layout, the names in docs/CLAIMS.md, proofs with their must-fail edits and programs, then the program hits on stored and on many
+# generated inputs, and the static library from C and from Rust. The last line is the prover's own tally, printed again only if everything else passed too.
 set -euo pipefail
 cd "$(dirname "$0")/.."
 
 rt fmt --check
+bash scripts/check_layout.sh
+bash scripts/check_claims.sh
 
 log=$(mktemp)
 trap 'rm -f "$log"' EXIT
@@ -14,8 +16,9 @@ case "$tally" in
   *" passed, 0 failed") ;;
   *) exit 1 ;;
 esac
+bash scripts/check_edits.sh
 
-rt staticlib capi
+rt staticlib quorum
 sh examples/test.sh
 sh examples/hits/test.sh
 (cd rust && cargo fmt --check && cargo test --release --offline --quiet)

@@ -11,7 +11,7 @@ fn compare(seed: u64, list: &[u32], first: u32, last: u32) -> usize {
     let expected = reference::between(list, first, last);
     let part = quorum::between(list, first, last);
     assert_eq!(part, &list[expected.clone()], "{}", context());
-    let places = quorum::ffi::range(list, first, last);
+    let places = quorum::ffi::between(list, first, last);
     assert!(places.start <= places.end && places.end <= list.len() as u64);
     if !expected.is_empty() {
         let start = expected.start as u64;

@@ -30,7 +30,13 @@ extern "C" {
         certificate_len: usize,
         result: *mut [u64; 4],
     );
-    fn quorum_range(list: *const u32, list_len: usize, first: u32, last: u32, part: *mut [u64; 2]);
+    fn quorum_between(
+        list: *const u32,
+        list_len: usize,
+        first: u32,
+        last: u32,
+        part: *mut [u64; 2],
+    );
     fn quorum_probe_bound(ends: *const u32, ends_len: usize, parts: u32, result: *mut [u64; 3]);
 }
 
@@ -85,10 +91,10 @@ pub fn check(numbers: &[u32], ends: &[u32], threshold: u32, certificate: &[u8]) 
 }
 
 /// Returns the places of the list that the part has.
-pub fn range(list: &[u32], first: u32, last: u32) -> Range<u64> {
+pub fn between(list: &[u32], first: u32, last: u32) -> Range<u64> {
     let mut part = [u64::MAX; 2];
     // SAFETY: as in `check`, with `part` for `result`.
-    unsafe { quorum_range(list.as_ptr(), list.len(), first, last, &mut part) };
+    unsafe { quorum_between(list.as_ptr(), list.len(), first, last, &mut part) };
     part[0]..part[1]
 }
 

@@ -215,7 +215,7 @@ pub fn check(numbers: &[u32], ends: &[u32], threshold: u32, certificate: &[u8]) 
 /// assert_eq!(between(&[9, 5, 2], 3, 9), []);
 /// ```
 pub fn between(list: &[u32], first: u32, last: u32) -> &[u32] {
-    let places = ffi::range(list, first, last);
+    let places = ffi::between(list, first, last);
     &list[places.start as usize..places.end as usize]
 }
 

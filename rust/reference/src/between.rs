@@ -3,8 +3,8 @@
 use std::ops::Range;
 
 /// Returns the places of `list` that hold exactly its numbers from `first` to
-/// `last`, both included. The range is empty if `first` is above `last` or
-/// the list does not rise, and always fits the list.
+/// `last`, both included: none if `first` is above `last` or the list does not
+/// rise. They always lie in the list.
 pub fn between(list: &[u32], first: u32, last: u32) -> Range<usize> {
     let rises = list.windows(2).all(|pair| pair[0] < pair[1]);
     if first > last || !rises {

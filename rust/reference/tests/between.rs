@@ -8,14 +8,14 @@ use reference::testing::{Random, M};
 
 /// Compares the part of the list with a filter over it.
 fn agrees(list: &[u32], first: u32, last: u32) {
-    let range = between(list, first, last);
+    let places = between(list, first, last);
     let rises = (1..list.len()).all(|i| list[i - 1] < list[i]);
     let expected: Vec<u32> = list
         .iter()
         .copied()
         .filter(|&x| rises && first <= x && x <= last)
         .collect();
-    assert_eq!(list[range], expected, "{list:?} from {first} to {last}");
+    assert_eq!(list[places], expected, "{list:?} from {first} to {last}");
 }
 
 #[test]
