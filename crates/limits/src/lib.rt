@@ -1,10 +1,27 @@
 // The limits of document 01, each under one name.
 
-// How many runs a question may have: a mask has a bit for each.
+// A question has at most so many runs.
 pub const MOST_RUNS: usize = 64;
 
-// How many numbers the runs of a question may have together.
+// All runs together have at most so many numbers.
 pub const MOST_NUMBERS: usize = 1048576;
 
-// A bin is a number from 0 to this.
+// A bin is a number from 0 to LAST_BIN; PAST_BIN is the number after the last.
 pub const LAST_BIN: u32 = 4294967295;
+
+pub const PAST_BIN: u64 = 4294967296;
+
+// The program hits accepts at most so many bytes, runs and numbers,
+pub const HITS_BYTES: usize = 65536;
+
+pub const HITS_RUNS: usize = 64;
+
+pub const HITS_NUMBERS: usize = 1024;
+
+// its buffers hold so many answers and certificate bytes,
+pub const HITS_ANSWERS: usize = 1024;
+
+pub const HITS_CERTIFICATE: usize = 65536;
+
+// and there is room for every text that it prints.
+pub const HITS_TEXT: usize = 262208;
