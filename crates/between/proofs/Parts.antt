@@ -10,7 +10,7 @@ use native.Mathlib.Omega.{arith}
 use Rattle.model.specs.Rows.{Rise, rise-nil, rise-cons, rank}
 use Rattle.model.proofs.From.{rank-nil, rank-pass, rank-stop, rank-le}
 use Rattle.model.proofs.Tests.{lt-or-le}
-use Rattle.model.specs.Range.{within, between}
+use Rattle.model.specs.Between.{within, between}
 use Rattle.model.specs.Runs.{unrisen}
 use Rattle.between.specs.Places.{Spans}
 

@@ -3,7 +3,7 @@ use Prim.Native.Nat.{ℕ, _≤_}
 use mathlib.Core.List.{List}
 use mathlib.Core.Path.{_≡_}
 use lib.ListN.{length}
-use Rattle.model.specs.Range.{between}
+use Rattle.model.specs.Between.{between}
 use Rattle.model.specs.Runs.{slice}
 use Rattle.between.specs.declared.Span.{Span}
 

@@ -1,7 +1,7 @@
 // Bins of one run between two numbers (document 01): a part of the caller's own list.
 ghost use mathlib.Core.Path.{_≡_};
 ghost use Rattle.model.specs.Rows.{Rise, rank};
-ghost use Rattle.model.specs.Range.{between};
+ghost use Rattle.model.specs.Between.{between};
 ghost use Rattle.between.specs.Places.{Spans};
 use rising::Found;
 

@@ -17,7 +17,7 @@ use Rattle.model.proofs.From.{rise-from, head-mem, from-mem, mem-from, head-bel
 use Rattle.model.proofs.Masks.{bit-of}
 use Rattle.model.proofs.Tests.{both, lt-or-le, eq-or-ne, true-false}
 use Rattle.model.specs.Certificate.{Part}
-use Rattle.model.specs.Range.{within}
+use Rattle.model.specs.Between.{within}
 use Rattle.model.specs.Refusals.{contradicts, anyContradicts}
 use Rattle.model.specs.Runs.{Run, pastBin, runs, runsFrom, holds, bit, names}
 use Rattle.model.specs.Walk.{headOf}

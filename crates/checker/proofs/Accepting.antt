@@ -22,7 +22,7 @@ accepted numbers ends t certificate v f h =
     (h, record { for-every = λ e. subst (λ x. Accepts (runs numbers ends) t certificate x) (sym h) (accepts numbers ends t certificate f e) })
 
 pub check-refused : (numbers ends : List ℕ) (t : ℕ) (certificate : List ℕ) (n p : ℕ) → firstChecks numbers ends t ≡ refusal n p
-    → invalid n p ≡ check numbers ends t certificate
+    → invalid n p 0 0 ≡ check numbers ends t certificate
 unfolding check
 check-refused numbers ends t certificate n p e = rw (e, check)
 

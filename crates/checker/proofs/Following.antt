@@ -23,13 +23,13 @@ use Rattle.checker.specs.Counts.{answerCount}
 
 -- ---- one field
 
-from-unreadable : (fuel : ℕ) (rs : List Run) (t b at x : ℕ) (bytes : List ℕ) → readField (x ∷ bytes) ≡ unreadable
-    → checkFrom (suc fuel) rs t b at (x ∷ bytes) ≡ invalid 8 at
+from-unreadable : (fuel : ℕ) (rs : List Run) (t b at x : ℕ) (bytes : List ℕ) → readField (x ∷ bytes) ≡ unreadable 8
+    → checkFrom (suc fuel) rs t b at (x ∷ bytes) ≡ invalid 8 at 0 0
 unfolding checkFrom
 from-unreadable fuel rs t b at x bytes e = rw (e, checkFrom)
 
 from-refused : (fuel : ℕ) (rs : List Run) (t b at x n place : ℕ) (bytes rest : List ℕ) (p : Part) → readField (x ∷ bytes) ≡ read p rest
-    → checkPart rs t b at p ≡ refusal n place → checkFrom (suc fuel) rs t b at (x ∷ bytes) ≡ invalid n place
+    → checkPart rs t b at p ≡ refusal n place → checkFrom (suc fuel) rs t b at (x ∷ bytes) ≡ invalid n place 0 0
 unfolding checkFrom
 from-refused fuel rs t b at x n place bytes rest p e h = rw (e, checkFrom, h)
 
@@ -47,12 +47,12 @@ answers-few (gap f l m) = omega arith
 
 unfoldable pub plus : ℕ → ℕ → Verdict → Verdict
 plus a n (valid x y) = valid (a + x) (n + y)
-plus a n (invalid x y) = invalid x y
+plus a n (invalid x y b m) = invalid x y b m
 
 plus-none : (v : Verdict) → plus 0 0 v ≡ v
 unfolding plus
 plus-none (valid x y) = let i : 0 + x ≡ x = omega arith in let j : 0 + y ≡ y = omega arith in ap₂ valid i j
-plus-none (invalid x y) = refl
+plus-none (invalid x y b m) = refl
 
 plus-counted : (a n : ℕ) (p : Part) (v : Verdict) → plus a n (counted p v) ≡ plus (a + answerCount p) (n + 1) v
 unfolding plus counted answerCount
@@ -60,12 +60,12 @@ plus-counted a n (answer w m) (valid x y) =
     let i : a + suc x ≡ a + 1 + x = omega arith in
     let j : n + suc y ≡ n + 1 + y = omega arith in
     ap₂ valid i j
-plus-counted a n (answer w m) (invalid x y) = refl
+plus-counted a n (answer w m) (invalid x y b k) = refl
 plus-counted a n (gap f l m) (valid x y) =
     let i : a + x ≡ a + 0 + x = omega arith in
     let j : n + suc y ≡ n + 1 + y = omega arith in
     ap₂ valid i j
-plus-counted a n (gap f l m) (invalid x y) = refl
+plus-counted a n (gap f l m) (invalid x y b k) = refl
 
 -- ---- the loop
 
@@ -102,11 +102,11 @@ module _ (numbers ends : List ℕ) (t : ℕ) (certificate cursors : List ℕ) (b
       h .same ∙ (λ i. plus answers parts (checkFrom (z i) (runs numbers ends) t bin at (d i)))
 
   pub along-unreadable : at < length certificate → (x : field.Field) → x ≡ Unreadable → readingOf certificate x ≡ readField (drop at certificate)
-      → invalid 8 at ≡ checkFrom (length certificate) (runs numbers ends) t 0 0 certificate
+      → invalid 8 at 0 0 ≡ checkFrom (length certificate) (runs numbers ends) t 0 0 certificate
   unfolding readingOf plus
   along-unreadable l x e r =
       let d = drop-cons certificate at 0 l in
-      let u : readField (getD certificate at 0 ∷ drop (suc at) certificate) ≡ unreadable =
+      let u : readField (getD certificate at 0 ∷ drop (suc at) certificate) ≡ unreadable 8 =
       ap readField (sym d) ∙ (sym r ∙ ap (readingOf certificate) e) in
       sym (step l ∙ ap (plus answers parts) (from-unreadable (length certificate - (parts + 1)) (runs numbers ends) t bin at (getD certificate at 0) (drop (suc at) certificate) u))
 
@@ -122,7 +122,7 @@ module _ (numbers ends : List ℕ) (t : ℕ) (certificate cursors : List ℕ) (b
   pub along-refused : at < length certificate → (x : field.Field) (q : code.Part) (next : ℕ) → x ≡ Read q next
       → readingOf certificate x ≡ readField (drop at certificate) → (cursors′ : List ℕ) (number : ℕ)
       → PartChecked numbers ends t bin (partOf q) cursors′ number → number ≢ 0
-      → invalid number at ≡ checkFrom (length certificate) (runs numbers ends) t 0 0 certificate
+      → invalid number at 0 0 ≡ checkFrom (length certificate) (runs numbers ends) t 0 0 certificate
   unfolding plus numbered
   along-refused l x q next e r cursors′ zero c n = absurd (n refl)
   along-refused l x q next e r cursors′ (suc number) c n =
@@ -169,10 +169,10 @@ module _ (numbers ends : List ℕ) (t : ℕ) (certificate cursors : List ℕ) (b
       ∙ ((λ z. plus answers parts (checkFrom (length certificate - parts) (runs numbers ends) t bin at (drop-of-length-le certificate l z)))
       ∙ (ap (plus answers parts) (from-end (length certificate - parts) (runs numbers ends) t bin at ∙ k) ∙ ap₂ valid i j)))
 
-  pub along-uncovered : length certificate ≤ at → bin ≢ 4294967296 → invalid 9 at ≡ checkFrom (length certificate) (runs numbers ends) t 0 0 certificate
+  pub along-uncovered : length certificate ≤ at → bin ≢ 4294967296 → invalid 9 at 0 0 ≡ checkFrom (length certificate) (runs numbers ends) t 0 0 certificate
   unfolding plus atEnd pastBin
   along-uncovered l n =
-      let k : atEnd bin at ≡ invalid 9 at = rw (ne-eqb bin 4294967296 n, atEnd) in
+      let k : atEnd bin at ≡ invalid 9 at 0 0 = rw (ne-eqb bin 4294967296 n, atEnd) in
       sym
       (h .same
       ∙ ((λ z. plus answers parts (checkFrom (length certificate - parts) (runs numbers ends) t bin at (drop-of-length-le certificate l z)))

@@ -10,7 +10,7 @@ use Rattle.checker.specs.declared.Verdict.the-variants.{Valid, Invalid}
 
 abbrev pub verdictIs : Verdict → model.Verdict
 verdictIs (Valid answers parts) = model.valid answers parts
-verdictIs (Invalid number place) = model.invalid number place
+verdictIs (Invalid number place) = model.invalid number place 0 0
 
 -- demand 2 for the checker, for lists and a threshold that pass the first checks
 pub record Accepted (numbers ends : List ℕ) (t : ℕ) (certificate : List ℕ) (v : model.Verdict) : Type 0 where

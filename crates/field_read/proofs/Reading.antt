@@ -39,7 +39,7 @@ module _ (l : List ℕ) (at : ℕ) where
 
 -- ---- the cases of a body and of a field
 
-pub answer-refused : (size : ℕ) (body : List ℕ) → (size ≡ 12 → length body < 12) → readBody 1 size body ≡ unreadable
+pub answer-refused : (size : ℕ) (body : List ℕ) → (size ≡ 12 → length body < 12) → readBody 1 size body ≡ unreadable 8
 unfolding readBody
 answer-refused size body h =
     ⊎-elim
@@ -47,7 +47,7 @@ answer-refused size body h =
     (λ (e : size ≢ 12). rw (ne-eqb size 12 e, readBody))
     (eq-or-ne size 12)
 
-pub gap-refused : (size : ℕ) (body : List ℕ) → (size ≡ 16 → length body < 16) → readBody 2 size body ≡ unreadable
+pub gap-refused : (size : ℕ) (body : List ℕ) → (size ≡ 16 → length body < 16) → readBody 2 size body ≡ unreadable 8
 unfolding readBody
 gap-refused size body h =
     ⊎-elim
@@ -55,11 +55,11 @@ gap-refused size body h =
     (λ (e : size ≢ 16). rw (ne-eqb size 16 e, readBody))
     (eq-or-ne size 16)
 
-pub unknown-tag : (tag size : ℕ) (body : List ℕ) → tag ≢ 1 → tag ≢ 2 → readBody tag size body ≡ unreadable
+pub unknown-tag : (tag size : ℕ) (body : List ℕ) → tag ≢ 1 → tag ≢ 2 → readBody tag size body ≡ unreadable 8
 unfolding readBody
 unknown-tag tag size body e f = rw (ne-eqb tag 1 e, ne-eqb tag 2 f, readBody)
 
-pub field-short : (bytes : List ℕ) → length bytes < 3 → readField bytes ≡ unreadable
+pub field-short : (bytes : List ℕ) → length bytes < 3 → readField bytes ≡ unreadable 8
 unfolding readField
 field-short bytes h = rw (lt-ltb (length bytes) 3 h, readField)
 
@@ -119,7 +119,7 @@ body-inside tag size body rest p e =
     let f : 19 ≡ sizeOf p = ap sizeOf n in
     omega arith)
     (λ (o : (eqb tag 2 && (eqb size 16 && leb 16 (length body))) ≡ false).
-    let r : unreadable ≡ read p rest = rw (q, readBody, o) at e in
+    let r : unreadable 8 ≡ read p rest = rw (q, readBody, o) at e in
     absurd (let z : _≡_ {A = ℕ} 0 1 = cc in omega arith))
     (both (eqb tag 2 && (eqb size 16 && leb 16 (length body)))))
     (both (eqb tag 1 && (eqb size 12 && leb 12 (length body))))
@@ -129,7 +129,7 @@ field-inside l rest at p e =
     ⊎-elim
     (λ (h : length l < at + 3).
     let d = length-drop at l in
-    let r : unreadable ≡ read p rest = sym (field-short (drop at l) (omega arith)) ∙ e in
+    let r : unreadable 8 ≡ read p rest = sym (field-short (drop at l) (omega arith)) ∙ e in
     absurd (let z : _≡_ {A = ℕ} 0 1 = cc in omega arith))
     (λ (h : at + 3 ≤ length l).
     let d = length-drop (at + 3) l in

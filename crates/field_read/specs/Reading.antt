@@ -17,7 +17,7 @@ partOf (Gap first last mask) = model.gap first last mask
 -- the reading that a value of the code's enum stands for: the bytes after the field are those from the next offset on
 unfoldable pub readingOf : List ℕ → Field → model.Reading
 readingOf bytes (Read p next) = model.read (partOf p) (drop next bytes)
-readingOf bytes Unreadable = model.unreadable
+readingOf bytes Unreadable = model.unreadable 8
 
 -- the next offset is where the field from an offset on ends
 unfoldable pub EndsFrom : ℕ → Field → Type 0

@@ -44,7 +44,7 @@ body-shape tag size body rest p e =
     let h = and-true (eqb size 16) (leb 16 (length body)) (and-true (eqb tag 2) (eqb size 16 && leb 16 (length body)) o .1) in
     inr (leb-true 16 (length body) (h .1), (cc), (cc)))
     (λ (o : (eqb tag 2 && (eqb size 16 && leb 16 (length body))) ≡ false).
-    let r : unreadable ≡ read p rest = rw (q, readBody, o) at e in
+    let r : unreadable 8 ≡ read p rest = rw (q, readBody, o) at e in
     absurd (let z : _≡_ {A = ℕ} 0 1 = cc in omega arith))
     (both (eqb tag 2 && (eqb size 16 && leb 16 (length body)))))
     (both (eqb tag 1 && (eqb size 12 && leb 12 (length body))))
@@ -54,7 +54,7 @@ unfolding readField
 field-shape bytes rest p e =
     ⊎-elim
     (λ (h : length bytes < 3).
-    let r : unreadable ≡ read p rest = rw (lt-ltb (length bytes) 3 h, readField) at e in
+    let r : unreadable 8 ≡ read p rest = rw (lt-ltb (length bytes) 3 h, readField) at e in
     absurd (let z : _≡_ {A = ℕ} 0 1 = cc in omega arith))
     (λ (h : 3 ≤ length bytes). (h, body-shape _ _ (drop 3 bytes) rest p (rw (le-ltb (length bytes) 3 h, readField) at e)))
     (lt-or-le (length bytes) 3)
@@ -77,16 +77,16 @@ read-size bytes rest p e =
 
 -- ---- the parts that bytes hold
 
-pub reads : (bytes : List ℕ) {A : Type 0} → (readField bytes ≡ unreadable → A) → ((p : Part) (rest : List ℕ) → readField bytes ≡ read p rest → A) → A
+pub reads : (bytes : List ℕ) {A : Type 0} → ((k : ℕ) → readField bytes ≡ unreadable k → A) → ((p : Part) (rest : List ℕ) → readField bytes ≡ read p rest → A) → A
 reads bytes {A} f g = go (readField bytes) refl
   where
     go : (r : Reading) → readField bytes ≡ r → A
-    go unreadable e = f e
+    go (unreadable k) e = f k e
     go (read p rest) e = g p rest e
 
-from-stop : (n : ℕ) (bytes : List ℕ) → readField bytes ≡ unreadable → partsFrom (suc n) bytes ≡ []
+from-stop : (n : ℕ) (bytes : List ℕ) (k : ℕ) → readField bytes ≡ unreadable k → partsFrom (suc n) bytes ≡ []
 unfolding partsFrom
-from-stop n bytes e = rw (e, partsFrom)
+from-stop n bytes k e = rw (e, partsFrom)
 
 from-read : (n : ℕ) (bytes rest : List ℕ) (p : Part) → readField bytes ≡ read p rest → partsFrom (suc n) bytes ≡ p ∷ partsFrom n rest
 unfolding partsFrom
@@ -105,7 +105,7 @@ from-same (suc m) zero [] h k = from-none (suc m) ∙ sym (from-none zero)
 from-same (suc m) zero (x ∷ bytes) h k = absurd (omega arith)
 from-same (suc m) (suc n) bytes h k =
     reads bytes
-    (λ e. from-stop m bytes e ∙ sym (from-stop n bytes e))
+    (λ k e. from-stop m bytes k e ∙ sym (from-stop n bytes k e))
     (λ p rest e.
     let s = read-size bytes rest p e in
     let z = size-pos p in
@@ -115,9 +115,9 @@ pub held-none : partsHeld [] ≡ []
 unfolding partsHeld
 held-none = from-none 0
 
-pub held-stop : (bytes : List ℕ) → readField bytes ≡ unreadable → partsHeld bytes ≡ []
+pub held-stop : (bytes : List ℕ) (k : ℕ) → readField bytes ≡ unreadable k → partsHeld bytes ≡ []
 unfolding partsHeld
-held-stop bytes e = from-same (length bytes) (suc (length bytes)) bytes (omega arith) (omega arith) ∙ from-stop (length bytes) bytes e
+held-stop bytes k e = from-same (length bytes) (suc (length bytes)) bytes (omega arith) (omega arith) ∙ from-stop (length bytes) bytes k e
 
 pub held-read : (bytes rest : List ℕ) (p : Part) → readField bytes ≡ read p rest → partsHeld bytes ≡ p ∷ partsHeld rest
 unfolding partsHeld
@@ -148,7 +148,7 @@ module _ {before certificate now : List ℕ} {place at : ℕ} (g : Along before 
   pub along-stop : (f : Field) → f ≡ Unreadable → readingOf certificate f ≡ readField (drop at certificate)
       → Lays (partLines (partsHeld certificate)) before 0 now place
   unfolding readingOf
-  along-stop f e r = none-left (held-stop (drop at certificate) (sym r ∙ ap (readingOf certificate) e))
+  along-stop f e r = none-left (held-stop (drop at certificate) 8 (sym r ∙ ap (readingOf certificate) e))
 
   pub along-on : (f : Field) (part : code.Part) (next : ℕ) → f ≡ Read part next → readingOf certificate f ≡ readField (drop at certificate)
       → {l : List ℕ} {p : ℕ} → Lays (partLine (partOf part)) now place l p → Along before certificate l p next

@@ -37,7 +37,7 @@ certified-prints rs t answers certificate a n b q k c =
     let e = c .at-the-end refl in
     let whole = wholeCertificate t rs in
     let i : take b certificate ≡ encode whole = c .parts ∙ ap encode (ap (λ m. take m whole) e ∙ take-length whole) in
-    let j : partsHeld (take b certificate) ≡ whole = ap partsHeld i ∙ held-encode whole k (c .is-true .covering) (c .is-true .each) in
+    let j : partsHeld (take b certificate) ≡ whole = ap partsHeld i ∙ held-encode whole k (c .whole-true .covering) (c .whole-true .each) in
     ap (λ ps. partLines ps ++ doneLine a n q) j
 
 -- An accepted question prints a line for each part of the whole certificate, and then its counts.

@@ -124,7 +124,7 @@ parts-room zero [] h f = rw held-none (omega arith)
 parts-room zero (x ∷ bytes) h f = absurd (omega arith)
 parts-room (suc n) bytes h f =
     reads bytes
-    (λ e. rw (held-stop bytes e) (omega arith))
+    (λ k e. rw (held-stop bytes k e) (omega arith))
     (λ p rest e.
     let s = read-size bytes rest p e in
     let z = size-pos p in

@@ -31,7 +31,7 @@ refuseLine number place = line (114 ∷ 101 ∷ 102 ∷ 117 ∷ 115 ∷ 101 ∷ 
 -- The parts that some bytes hold: fields one after another, up to the first that cannot be read. (Each field has at least one byte.)
 unfoldable pub partsFrom : ℕ → List ℕ → List Part
 partsFrom zero bytes = []
-partsFrom (suc fuel) bytes = elim (readField bytes) [ unreadable ↦ [] | read p rest ↦ p ∷ partsFrom fuel rest ]
+partsFrom (suc fuel) bytes = elim (readField bytes) [ unreadable n ↦ [] | read p rest ↦ p ∷ partsFrom fuel rest ]
 
 unfoldable pub partsHeld : List ℕ → List Part
 partsHeld bytes = partsFrom (length bytes) bytes

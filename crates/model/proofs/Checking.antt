@@ -14,7 +14,7 @@ use native.Mathlib.Nat.{div-eq-of-lt, div-lt-iff-lt-mul, one-mul}
 use native.Mathlib.Omega.{arith}
 use Rattle.model.specs.Certificate.{Part, answer, gap, firstOf, lastOf, maskOf, answersOf, encodePart, encode, sizeOf, Reading, unreadable, read, readField, Covers, covered, covers, TrueGap, TrueAnswer, TruePart, gap-true, answer-true}
 use Rattle.model.specs.Demands.{Fits, Accepts}
-use Rattle.model.specs.Range.{within}
+use Rattle.model.specs.Between.{within}
 use Rattle.model.specs.Refusals.{Check, passed, refusal, _then_, refuseIf, firstChecks, Verdict, valid, invalid, misplaced, misnamed, contradicts, anyContradicts, checkPart, counted, atEnd, checkFrom, check}
 use Rattle.model.specs.Runs.{Run, firstBin, pastBin, runs, names}
 use Rattle.model.proofs.Encoding.{InRange, read-back, part-size, read-field}
@@ -170,9 +170,9 @@ counted-valid : (p : Part) (v : Verdict) (a n : ℕ) → counted p v ≡ valid a
     → (c : ℕ) × (k : ℕ) × (v ≡ valid c k) × (n ≡ suc k) × ((ps : List Part) → c ≡ length (answersOf ps) → a ≡ length (answersOf (p ∷ ps)))
 unfolding counted answersOf
 counted-valid (answer x m) (valid c k) a n e = (c, k, refl, cc, λ ps h. let i : a ≡ suc c = cc in i ∙ ap suc h)
-counted-valid (answer x m) (invalid y z) a n e = absurd (let w : _≡_ {A = ℕ} 0 1 = cc in omega arith)
+counted-valid (answer x m) (invalid y z b k) a n e = absurd (let w : _≡_ {A = ℕ} 0 1 = cc in omega arith)
 counted-valid (gap f l m) (valid c k) a n e = (c, k, refl, cc, λ ps h. let i : a ≡ c = cc in i ∙ h)
-counted-valid (gap f l m) (invalid y z) a n e = absurd (let w : _≡_ {A = ℕ} 0 1 = cc in omega arith)
+counted-valid (gap f l m) (invalid y z b k) a n e = absurd (let w : _≡_ {A = ℕ} 0 1 = cc in omega arith)
 
 valid-counted : (p : Part) (ps : List Part) → counted p (valid (length (answersOf ps)) (length ps)) ≡ valid (length (answersOf (p ∷ ps))) (length (p ∷ ps))
 unfolding counted answersOf
@@ -203,7 +203,7 @@ end-valid rs t b at a n e =
       number = cc;
     })
     (λ (q : b ≢ pastBin).
-    let i : invalid 9 at ≡ valid a n = rw (ne-eqb b pastBin q, atEnd) at e in
+    let i : invalid 9 at 0 0 ≡ valid a n = rw (ne-eqb b pastBin q, atEnd) at e in
     absurd (let w : _≡_ {A = ℕ} 0 1 = cc in omega arith))
     (eq-or-ne b pastBin)
 
@@ -259,12 +259,12 @@ accepted-true (suc fuel) rs t b at (x ∷ bytes) a n l h e =
         (sym (check-read fuel rs t b at x bytes rest p i j) ∙ e)
         (λ c k w f. next p rest k c i f w)
     checking p rest (refusal m place) i j next =
-        let w : invalid m place ≡ valid a n = rw (i, checkFrom, j) at e in
+        let w : invalid m place 0 0 ≡ valid a n = rw (i, checkFrom, j) at e in
         absurd (let z : _≡_ {A = ℕ} 0 1 = cc in omega arith)
 
     reading : (r : Reading) → readField (x ∷ bytes) ≡ r → Next → Tail rs t b (x ∷ bytes) a n
-    reading unreadable i next =
-        let w : invalid 8 at ≡ valid a n = rw (i, checkFrom) at e in
+    reading (unreadable k) i next =
+        let w : invalid k at 0 0 ≡ valid a n = rw (i, checkFrom) at e in
         absurd (let z : _≡_ {A = ℕ} 0 1 = cc in omega arith)
     reading (read p rest) i next = checking p rest (checkPart rs t b at p) i refl next
 

@@ -10,7 +10,7 @@ use native.Mathlib.Nat.{le-trans, mul-le-mul-right}
 use native.Mathlib.Omega.{arith}
 use Rattle.model.specs.Certificate.{Part, answersOf, encode, TrueCertificate}
 use Rattle.model.specs.Compared.{wholeWalk, partsOf, wholeCertificate, probeIn, probesIn, probesOf, digits, boundOf, boundIn, bound}
-use Rattle.model.specs.Demands.{Fits, answersIn, partsIn, bytesIn, probesMade, refusedBy, Certified, Demand2, Bounded, Demand3}
+use Rattle.model.specs.Demands.{Fits, answersIn, partsIn, bytesIn, probesMade, refusedBy, Exact, Certified, Demand2, Bounded, Demand3}
 use Rattle.model.specs.Refusals.{passed, firstChecks, Ended, cutWalk, over, outcomeOf, query}
 use Rattle.model.specs.Runs.{Run, firstBin, pastBin, runs, total}
 use Rattle.model.specs.Walk.{Event, walk}
@@ -95,6 +95,9 @@ module _ (rs : List Run) (t allowance : ℕ) (answers certificate : List ℕ) wh
       outcome-parts (ended .events) (ended .refused)
       ∙ ap (λ l. length (partsOf l)) (cut-whole _ (wholeWalk t rs) (sym (outcome-refused (ended .events) (ended .refused)) ∙ e))
 
+  all-parts : refusedBy (outcomeOf ended) ≡ 0 → take (partsIn (outcomeOf ended)) (wholeCertificate t rs) ≡ wholeCertificate t rs
+  all-parts e = ap (λ n. take n (wholeCertificate t rs)) (whole-at-end e) ∙ take-length (wholeCertificate t rs)
+
   -- d × 2 × digits of a run, whatever the walk did of the whole
   each-bound : Fit rs t → (d : ℕ) → length (wholeCertificate t rs) ≤ d → (r : Run) → List·Memᴰ r rs → probesIn (r .label) (wholeWalk t rs) ≤ boundIn d r
   unfolding boundIn boundOf wholeCertificate
@@ -130,9 +133,11 @@ module _ (rs : List Run) (t allowance : ℕ) (answers certificate : List ℕ) wh
       → Certified rs t (outcomeOf ended) (over (answersOf (partsOf (ended .events))) answers) (over (encode (partsOf (ended .events))) certificate)
   certified-ended g =
       record {
-        exact = exact g (whole-true g);
-        is-true = whole-true g;
+        exact = λ e. subst (Exact rs t) (sym (answers-front ∙ ap answersOf (all-parts e))) (exact g (whole-true g));
+        is-true = λ e. (wholeCertificate t rs, whole-true g, certificate-front ∙ ap encode (all-parts e));
         at-the-end = whole-at-end;
+        whole-exact = exact g (whole-true g);
+        whole-true = whole-true g;
         parts = certificate-front;
         answered = answers-front;
       }

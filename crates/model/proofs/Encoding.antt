@@ -175,7 +175,7 @@ body-read tag x y size body rest p e h i u =
     let f = gap-field body (leb-true 16 (length body) (b .1)) h in
     moved t (n .0) (n .1) r f)
     (λ (o : (eqb tag 2 && (eqb size 16 && leb 16 (length body))) ≡ false).
-    let r : unreadable ≡ read p rest = rw (q, readBody, o) at e in
+    let r : unreadable 8 ≡ read p rest = rw (q, readBody, o) at e in
     absurd (let w : _≡_ {A = ℕ} 0 1 = cc in omega arith))
     (both (eqb tag 2 && (eqb size 16 && leb 16 (length body)))))
     (both (eqb tag 1 && (eqb size 12 && leb 12 (length body))))

@@ -56,10 +56,10 @@ unfoldable pub sizeOf : Part → ℕ
 sizeOf (answer v m) = 15
 sizeOf (gap f l m) = 19
 
--- What stands at the front of some bytes: a part and the bytes after its field; or a field that is cut short, whose tag is unknown, or whose
--- length is not the tag's.
+-- What stands at the front of some bytes: a part and the bytes after its field; or a refusal's number. Refusal 8: the field is cut short, its tag is
+-- unknown, or its length is not the tag's.
 pub data Reading : Type 0 where
-  unreadable : Reading
+  unreadable : (number : ℕ) → Reading
   read : Part → List ℕ → Reading
 
 unfoldable pub readBody : ℕ → ℕ → List ℕ → Reading
@@ -69,14 +69,14 @@ readBody tag size body =
       | false ↦
           elim (eqb tag 2 && (eqb size 16 && leb 16 (length body))) [
             | true ↦ read (gap (numberOf (take 4 body)) (numberOf (take 4 (drop 4 body))) (numberOf (take 8 (drop 8 body)))) (drop 16 body)
-            | false ↦ unreadable
+            | false ↦ unreadable 8
           ]
     ]
 
 unfoldable pub readField : List ℕ → Reading
 readField bytes =
     elim (ltb (length bytes) 3) [
-      | true ↦ unreadable
+      | true ↦ unreadable 8
       | false ↦ readBody (getD bytes 0 0) (numberOf (take 2 (drop 1 bytes))) (drop 3 bytes)
     ]
 

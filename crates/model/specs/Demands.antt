@@ -41,13 +41,19 @@ pub record Exact (rs : List Run) (t : ℕ) (answers : List ℕ) : Type 0 where
   pub all-held : (x : ℕ) → List·Memᴰ x answers ↔ (t ≤ count (λ r. holds x (r .bins)) rs)
   pub rising : unrisen 0 answers ≡ none
 
+-- Bytes are a true certificate: they are the fields of parts that are true.
+abbrev pub TrueBytes : List Run → ℕ → List ℕ → Type 0
+TrueBytes rs t bytes = (ps : List Part) × TrueCertificate rs t ps × (bytes ≡ encode ps)
+
 -- Demand 2 for a question. When a walk reaches its end, the answers are all the bins held by at least t lists, and no others, rising, each once. The
 -- certificate beside them is true by the paper's rule. A walk that stops early has written the first parts of that same certificate and
 -- their answers.
 pub record Certified (rs : List Run) (t : ℕ) (o : Outcome) (answers certificate : List ℕ) : Type 0 where
-  pub exact : Exact rs t (answersOf (wholeCertificate t rs))
-  pub is-true : TrueCertificate rs t (wholeCertificate t rs)
+  pub exact : refusedBy o ≡ 0 → Exact rs t (take (answersIn o) answers)
+  pub is-true : refusedBy o ≡ 0 → TrueBytes rs t (take (bytesIn o) certificate)
   pub at-the-end : refusedBy o ≡ 0 → partsIn o ≡ length (wholeCertificate t rs)
+  pub whole-exact : Exact rs t (answersOf (wholeCertificate t rs))
+  pub whole-true : TrueCertificate rs t (wholeCertificate t rs)
   pub parts : take (bytesIn o) certificate ≡ encode (take (partsIn o) (wholeCertificate t rs))
   pub answered : take (answersIn o) answers ≡ answersOf (take (partsIn o) (wholeCertificate t rs))
 

@@ -1,8 +1,8 @@
+pub mod Between
 pub mod Certificate
 pub mod Compared
 pub mod Demands
 pub mod Instances
-pub mod Range
 pub mod Refusals
 pub mod Rows
 pub mod Runs

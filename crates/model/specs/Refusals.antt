@@ -9,7 +9,7 @@ use lib.Dec.{ltb, leb, eqb}
 use lib.ListN.{length, drop}
 use Rattle.model.specs.Certificate.{Part, answer, gap, firstOf, lastOf, answersOf, encode, sizeOf, unreadable, read, readField}
 use Rattle.model.specs.Compared.{wholeWalk, partsOf, probesOf}
-use Rattle.model.specs.Range.{within}
+use Rattle.model.specs.Between.{within}
 use Rattle.model.specs.Runs.{Run, firstBin, pastBin, runs, unrisen, holds, names, mostRuns, mostNumbers}
 use Rattle.model.specs.Walk.{Event, sought, doubled, halved, wrote}
 
@@ -134,7 +134,7 @@ query numbers ends t allowance answers certificate =
 -- The checker returns the counts of answers and parts, both zero on a refusal.
 pub data Verdict : Type 0 where
   valid : (answers parts : ℕ) → Verdict
-  invalid : (number place : ℕ) → Verdict
+  invalid : (number place answers parts : ℕ) → Verdict
 
 -- Refusal 9 at a field: its first number (or value) is not the next uncovered bin, its last is below its first, or nothing is uncovered.
 unfoldable pub misplaced : ℕ → Part → Bool
@@ -163,13 +163,13 @@ checkPart rs t b at p =
 -- one more part, which is an answer or a gap
 unfoldable pub counted : Part → Verdict → Verdict
 counted (answer v m) (valid a n) = valid (suc a) (suc n)
-counted (answer v m) (invalid x y) = invalid x y
+counted (answer v m) (invalid x y b k) = invalid x y b k
 counted (gap f l m) (valid a n) = valid a (suc n)
-counted (gap f l m) (invalid x y) = invalid x y
+counted (gap f l m) (invalid x y b k) = invalid x y b k
 
 -- At the end 9: a bin is still uncovered, b being the next one.
 unfoldable pub atEnd : ℕ → ℕ → Verdict
-atEnd b at = elim (eqb b pastBin) [ true ↦ valid 0 0 | false ↦ invalid 9 at ]
+atEnd b at = elim (eqb b pastBin) [ true ↦ valid 0 0 | false ↦ invalid 9 at 0 0 ]
 
 -- The checker settles one field fully before the next, from the next uncovered bin b and the offset at on. (Each field has at least one byte.)
 unfoldable pub checkFrom : ℕ → List Run → ℕ → ℕ → ℕ → List ℕ → Verdict
@@ -177,10 +177,10 @@ checkFrom zero rs t b at bytes = atEnd b at
 checkFrom (suc fuel) rs t b at [] = atEnd b at
 checkFrom (suc fuel) rs t b at (x ∷ bytes) =
     elim (readField (x ∷ bytes)) [
-      | unreadable ↦ invalid 8 at
+      | unreadable n ↦ invalid n at 0 0
       | read p rest ↦
           elim (checkPart rs t b at p) [
-            | refusal n place ↦ invalid n place
+            | refusal n place ↦ invalid n place 0 0
             | passed ↦ counted p (checkFrom fuel rs t (suc (lastOf p)) (at + sizeOf p) rest)
           ]
     ]
@@ -189,5 +189,5 @@ unfoldable pub check : List ℕ → List ℕ → ℕ → List ℕ → Verdict
 check numbers ends t certificate =
     elim (firstChecks numbers ends t) [
       | passed ↦ checkFrom (length certificate) (runs numbers ends) t firstBin 0 certificate
-      | refusal n p ↦ invalid n p
+      | refusal n p ↦ invalid n p 0 0
     ]

@@ -7,7 +7,7 @@ use lib.Dec.{ltb}
 use lib.ListN.{length, getD}
 use Rattle.bound.specs.declared.Bound.{Bound}
 use Rattle.bound.specs.declared.Bound.the-variants as bound
-use Rattle.model.specs.Range.{between}
+use Rattle.model.specs.Between.{between}
 use Rattle.model.specs.Runs.{slice}
 use Rattle.model.specs.Refusals.{Outcome, accepted, refused, Verdict, valid, invalid}
 
@@ -23,7 +23,7 @@ outcomeRow (refused x p a b q) = x ∷ p ∷ a ∷ writtenOf x p ∷ b ∷ q ∷
 -- refusal, place, answers, parts
 unfoldable pub verdictRow : Verdict → List ℕ
 verdictRow (valid a n) = 0 ∷ 0 ∷ a ∷ n ∷ []
-verdictRow (invalid x p) = x ∷ p ∷ 0 ∷ 0 ∷ []
+verdictRow (invalid x p a n) = x ∷ p ∷ a ∷ n ∷ []
 
 -- refusal, place, bound
 unfoldable pub boundRow : Bound → List ℕ

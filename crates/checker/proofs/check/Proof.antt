@@ -31,7 +31,7 @@ returns : tie.Need-returns
 returns c =
     let a = c .before .before .before .before .before .before .before .args in
     let g = c .before .number .given in
-    accepted (a .numbers .now) (a .ends .now) (a .threshold) (a .certificate .now) (invalid (g .0 .0) (g .0 .1 .0)) (fits-bytes (c .before .before .before .before))
+    accepted (a .numbers .now) (a .ends .now) (a .threshold) (a .certificate .now) (invalid (g .0 .0) (g .0 .1 .0) 0 0) (fits-bytes (c .before .before .before .before))
     (check-refused (a .numbers .now) (a .ends .now) (a .threshold) (a .certificate .now) (g .0 .0) (g .0 .1 .0)
     (sym (c .before .before .before .first-checks .ensures) ∙ ap checkOf (g .1)))
 
