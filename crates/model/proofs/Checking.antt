@@ -16,7 +16,7 @@ use Rattle.model.specs.Certificate.{Part, answer, gap, firstOf, lastOf, 
 use Rattle.model.specs.Demands.{Fits, Accepts}
 use Rattle.model.specs.Between.{within}
 use Rattle.model.specs.Refusals.{Check, passed, refusal, _then_, refuseIf, firstChecks, Verdict, valid, invalid, misplaced, misnamed, contradicts, anyContradicts, checkPart, counted, atEnd, checkFrom, check}
-use Rattle.model.specs.Runs.{Run, firstBin, pastBin, runs, names}
+use Rattle.model.specs.Runs.{Run, firstBin, pastBin, runs, names, mostRuns}
 use Rattle.model.proofs.Encoding.{InRange, read-back, part-size, read-field}
 use Rattle.model.proofs.Fewest.{covers-nil, covers-first, covers-order, covers-rest}
 use Rattle.model.proofs.FirstChecks.{then-first, then-second, refuse-if, first-passed, runs-length}
@@ -287,7 +287,7 @@ unfolding maskOf
 true-mask {rs} (gap-true {m = m} q) = only-below m (length rs) (q .only)
 true-mask {rs} (answer-true {m = m} q) = only-below m (length rs) (q .only)
 
-pub in-range : {rs : List Run} {t b : ℕ} {p : Part} {ps : List Part} → Covers b (p ∷ ps) → TruePart rs t p → length rs ≤ 64 → InRange p
+pub in-range : {rs : List Run} {t b : ℕ} {p : Part} {ps : List Part} → Covers b (p ∷ ps) → TruePart rs t p → length rs ≤ mostRuns → InRange p
 in-range {rs} {p = p} {ps = ps} c h k =
     let i = covers-past (suc (lastOf p)) ps (covers-rest c) in
     let l = covers-order c in
@@ -307,7 +307,7 @@ unfolding checkFrom atEnd
 end-here zero rs t b at e = rw (eq-eqb b pastBin e, atEnd)
 end-here (suc fuel) rs t b at e = rw (eq-eqb b pastBin e, atEnd)
 
-true-accepted : (fuel : ℕ) (rs : List Run) (t b at : ℕ) (ps : List Part) → length rs ≤ 64 → Covers b ps → ((p : Part) → List·Memᴰ p ps → TruePart rs t p)
+true-accepted : (fuel : ℕ) (rs : List Run) (t b at : ℕ) (ps : List Part) → length rs ≤ mostRuns → Covers b ps → ((p : Part) → List·Memᴰ p ps → TruePart rs t p)
     → length (encode ps) ≤ fuel → checkFrom fuel rs t b at (encode ps) ≡ valid (length (answersOf ps)) (length ps)
 unfolding encode answersOf
 true-accepted zero rs t b at [] k c h l = end-here zero rs t b at (covers-nil c)

@@ -12,7 +12,7 @@ use mathlib.Core.Path.{_≡_, refl, sym, ap, _∙_}
 use native.Mathlib.Omega.{arith}
 use Rattle.model.specs.Demands.{Fits}
 use Rattle.model.specs.Refusals.{Check, passed, refusal, _then_, refuseIf, refuseAt, fallsFrom, lastEnd, unrisenIn, firstChecks}
-use Rattle.model.specs.Runs.{Run, pastBin, runsFrom, runs, unrisenAfter, unrisen}
+use Rattle.model.specs.Runs.{Run, pastBin, runsFrom, runs, unrisenAfter, unrisen, mostNumbers, mostRuns}
 use Rattle.model.specs.Rows.{Rise, rise-nil, rise-cons}
 use Rattle.model.proofs.Masks.{Labelled, labelled-nil, labelled-cons}
 use Rattle.model.proofs.Tests.{lt-or-le, or-false}
@@ -140,12 +140,12 @@ fits w (y ∷ s) h =
 -- What the first checks give.
 pub record Passed (numbers ends : List ℕ) (t : ℕ) : Type 0 where
   pub some-runs : 0 < length ends
-  pub few-runs : length ends ≤ 64
+  pub few-runs : length ends ≤ mostRuns
   pub threshold : 0 < t
   pub met : t ≤ length ends
   pub ends-rise : fallsFrom 0 0 ends ≡ none
   pub ends-last : lastEnd 0 ends ≡ length numbers
-  pub few-numbers : length numbers ≤ 1048576
+  pub few-numbers : length numbers ≤ mostNumbers
   pub numbers-rise : unrisenIn 0 (runs numbers ends) ≡ none
 
 eqb-not : (a b : ℕ) → not (eqb a b) ≡ false → a ≡ b
@@ -162,19 +162,19 @@ first-passed numbers ends t e =
     let e₄ = then-second _ _ e₃ in
     let c₄ = refuse-if _ 3 (length ends) (then-first _ _ e₄) in
     let c₅ = refuse-at 4 (unrisenIn 0 (runs numbers ends)) (then-second _ _ e₄) in
-    let d₁ = or-false (eqb (length ends) 0) (ltb 64 (length ends)) c₁ in
+    let d₁ = or-false (eqb (length ends) 0) (ltb mostRuns (length ends)) c₁ in
     let d₂ = or-false (eqb t 0) (ltb (length ends) t) c₂ in
-    let d₄ = or-false (not (eqb (lastEnd 0 ends) (length numbers))) (ltb 1048576 (length numbers)) c₄ in
+    let d₄ = or-false (not (eqb (lastEnd 0 ends) (length numbers))) (ltb mostNumbers (length numbers)) c₄ in
     let n₁ : length ends ≢ 0 = eqb-false (length ends) 0 (d₁ .0) in
     let n₂ : t ≢ 0 = eqb-false t 0 (d₂ .0) in
     record {
       some-runs = omega arith;
-      few-runs = ltb-false 64 (length ends) (d₁ .1);
+      few-runs = ltb-false mostRuns (length ends) (d₁ .1);
       threshold = omega arith;
       met = ltb-false (length ends) t (d₂ .1);
       ends-rise = c₃;
       ends-last = eqb-not (lastEnd 0 ends) (length numbers) (d₄ .0);
-      few-numbers = ltb-false 1048576 (length numbers) (d₄ .1);
+      few-numbers = ltb-false mostNumbers (length numbers) (d₄ .1);
       numbers-rise = c₅;
     }
 
