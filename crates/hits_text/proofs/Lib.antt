@@ -1,2 +1,3 @@
+pub mod Instances
 pub mod Printing
 pub mod Refusals
