@@ -55,8 +55,8 @@ pub fn ask(
         ends,
         threshold,
         allowance,
-        &mut answers[0..1024],
-        &mut certificate[0..65536],
+        &mut answers,
+        &mut certificate,
         text,
     )
 }

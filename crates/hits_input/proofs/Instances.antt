@@ -2,8 +2,9 @@
 use mathlib.Core.Path.{refl}
 use Rattle.model.specs.Refusals.{over}
 use Rattle.model.specs.Runs.{lastBin}
+use Rattle.hits_limits.specs.Limits.{mostBytes}
 use Rattle.hits_input.specs.Instances.{bytes, parsed, expected, accepts, refuses, zeros, instances, AsExpected}
-use Rattle.hits_input.specs.Input.{mostBytes, before, numbersOf, pair, twoWords, headingOf, runOf, withRun, linesFrom, limited, row, endsFrom, resultOf, parseLines, parse}
+use Rattle.hits_input.specs.Input.{before, numbersOf, pair, twoWords, headingOf, runOf, withRun, linesFrom, limited, row, endsFrom, resultOf, parseLines, parse}
 use Rattle.text_read.specs.Pieces.{onFirst, split}
 use Rattle.text_read.specs.Numbers.{allDigits, digitsValue, number}
 

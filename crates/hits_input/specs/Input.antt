@@ -6,12 +6,9 @@ use mathlib.Core.Option.{Option, none, some}
 use lib.Dec.{ltb, leb, eqb}
 use lib.ListN.{length, take}
 use Rattle.model.specs.Refusals.{over}
+use Rattle.hits_limits.specs.Limits.{mostBytes}
 use Rattle.text_read.specs.Pieces.{split}
 use Rattle.text_read.specs.Numbers.{number}
-
--- The program accepts at most 65,536 bytes.
-unfoldable pub mostBytes : ℕ
-mostBytes = 65536
 
 -- the numbers that words are, if each is one
 unfoldable pub before : Option ℕ → Option (List ℕ) → Option (List ℕ)

@@ -14,7 +14,8 @@ use native.Mathlib.Numerals.{add-one}
 use native.Mathlib.Omega.{arith}
 use Rattle.model.proofs.Slices.{part-length}
 use Rattle.model.proofs.Tests.{both, eq-or-ne, or-false}
-use Rattle.hits_input.specs.Input.{mostBytes, before, numbersOf, runOf, Lines, runsAre, faultAt, withRun, linesFrom, row, endsFrom}
+use Rattle.hits_limits.specs.Limits.{mostBytes}
+use Rattle.hits_input.specs.Input.{before, numbersOf, runOf, Lines, runsAre, faultAt, withRun, linesFrom, row, endsFrom}
 use Rattle.text_read.specs.Pieces.{split, until}
 use Rattle.text_read.specs.Numbers.{number}
 use Rattle.hits_line.specs.Line.{leading}

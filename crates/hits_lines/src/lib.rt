@@ -2,7 +2,7 @@
 ghost use mathlib.Core.Path.{_≡_};
 ghost use Prim.Native.Nat.{_≤_};
 ghost use lib.ListN.{length};
-ghost use Rattle.hits_input.specs.Input.{mostBytes};
+ghost use Rattle.hits_limits.specs.Limits.{mostBytes};
 ghost use Rattle.hits_lines.specs.Lines.{scanned, Within, linesAt, Readable, Stored};
 use hits_line::Run;
 

@@ -1,4 +1,4 @@
--- `parse_bytes` parses at most 65,536 bytes. Assumes nothing.
+-- `parse_bytes` parses at most as many bytes as the limit. Assumes nothing.
 use Prim.Native.Nat.{_+_, _-_}
 use borrow.Author.Needs.{needs}
 use lib.ListN.{length, take}
