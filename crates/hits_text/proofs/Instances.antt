@@ -10,7 +10,8 @@ use Rattle.text_read.specs.Numbers.{allDigits, digitsValue, number}
 use Rattle.text_write.specs.Lines.{decimalIn, decimal, numbersAfter, line}
 use Rattle.hits_input.specs.Input.{mostBytes, before, numbersOf, pair, twoWords, headingOf, runOf, withRun, linesFrom, limited, row, endsFrom, resultOf, parseLines, parse}
 use Rattle.hits_input.specs.Instances.{bytes}
-use Rattle.hits_render.specs.Text.{partLine, partLines, doneLine, refuseLine, partsFrom, partsHeld, rendered}
+use Rattle.hits_parts.specs.Parts.{partLine, partLines, partsFrom, partsHeld}
+use Rattle.hits_render.specs.Text.{doneLine, refuseLine, rendered}
 use Rattle.hits_ask.specs.Ask.{shown, asked, textFor}
 use Rattle.hits_text.specs.Hits.{parsed, printed, hits}
 use Rattle.hits_text.specs.Instances.{listingInput, listingText, refusedInput, refusedText}

@@ -1,9 +1,11 @@
--- Numbers, lines and parts laid into a buffer, piece by piece. Assumes nothing.
+-- Numbers and lines laid into a buffer, piece by piece, and how long a line is. Assumes nothing.
 use Prim.Native.Nat.{ℕ, _+_, _/_, _%_, _≤_, _<_}
-use lib.ListN.{length, getD, take}
+use lib.ListN.{length, getD, take, length-append}
 use lib.Seq.{take-suc, take-all}
 use mathlib.Core.List.{List, [], _∷_}
+use mathlib.Core.Path.{_≡_}
 use native.Mathlib.Numerals.{add-one}
+use native.Mathlib.Omega.{arith}
 use Rattle.text_write.specs.Laying.{Lays}
 use Rattle.text_write.specs.Lines.{decimal, numbersAfter, line}
 use Rattle.text_write.proofs.Decimals.{decimal-digit, decimal-more}
@@ -47,3 +49,23 @@ pub three-laid : (x y z : ℕ) {word l l₁ l₂ l₃ : List ℕ} {at p₁ p₂ 
     → Lays (numbersAfter (y ∷ z ∷ [])) l₂ p₂ l₃ p₃ → Lays (line word (x ∷ y ∷ z ∷ [])) l at l₃ p₃
 unfolding line numbersAfter
 three-laid x y z g h k = lays-then g (lays-then h k)
+
+-- ---- the length of a line
+
+pub two-length : (word : List ℕ) (x y : ℕ) → length (line word (x ∷ y ∷ [])) ≡ length word + (length (decimal x) + length (decimal y) + 3)
+unfolding line numbersAfter
+two-length word x y =
+    let a = length-append word (numbersAfter (x ∷ y ∷ [])) in
+    let b = length-append (decimal x) (numbersAfter (y ∷ [])) in
+    let c = length-append (decimal y) (numbersAfter []) in
+    omega arith
+
+pub three-length : (word : List ℕ) (x y z : ℕ)
+    → length (line word (x ∷ y ∷ z ∷ [])) ≡ length word + (length (decimal x) + length (decimal y) + length (decimal z) + 4)
+unfolding line numbersAfter
+three-length word x y z =
+    let a = length-append word (numbersAfter (x ∷ y ∷ z ∷ [])) in
+    let b = length-append (decimal x) (numbersAfter (y ∷ z ∷ [])) in
+    let c = length-append (decimal y) (numbersAfter (z ∷ [])) in
+    let d = length-append (decimal z) (numbersAfter []) in
+    omega arith

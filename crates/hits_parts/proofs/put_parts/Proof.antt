@@ -1,4 +1,4 @@
--- `render::put_parts` lays the lines of one part after another. The invariant is `Along`; the measure is what is left of the certificate.
+-- `put_parts` lays the lines of one part after another. The invariant is `Along`; the measure is what is left of the certificate.
 -- Assumes nothing.
 use Prim.Native.Nat.{_-_}
 use borrow.Author.Needs.{needs}
@@ -6,9 +6,9 @@ use lib.ListN.{length}
 use native.Mathlib.Omega.{arith}
 use Rattle.field_read.specs.Reading.{partOf}
 use Rattle.model.proofs.Checking.{size-pos}
-use Rattle.hits_render.proofs.Parts.{Along, along-start, along-end, along-stop, along-on, next-part}
-use Rattle.hits_render.proofs.put_parts.Statement.{statement}
-use Rattle.hits_render.proofs.put_parts.Tie as tie
+use Rattle.hits_parts.proofs.Parts.{Along, along-start, along-end, along-stop, along-on, next-part}
+use Rattle.hits_parts.proofs.put_parts.Statement.{statement}
+use Rattle.hits_parts.proofs.put_parts.Tie as tie
 
 abbrev Inv-loop : tie.InvT-loop
 Inv-loop text₀ certificate place₀ at₀ text place at = Along text₀ certificate text place at

@@ -7,7 +7,7 @@ use Rattle.field_read.specs.declared.Part as code
 use Rattle.field_read.specs.declared.Part.the-variants.{Answer, Gap}
 use Rattle.text_write.specs.Laying.{Lays}
 use Rattle.text_write.specs.Lines.{line}
-use Rattle.hits_render.specs.Text.{partLine}
+use Rattle.hits_parts.specs.Parts.{partLine}
 
 -- ---- the line of a part
 

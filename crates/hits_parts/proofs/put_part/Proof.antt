@@ -1,8 +1,8 @@
--- `render::put_part` lays the line of an answer or of a gap. Assumes nothing.
+-- `put_part` lays the line of an answer or of a gap. Assumes nothing.
 use borrow.Author.Needs.{needs}
-use Rattle.hits_render.proofs.Parted.{hit-laid, gap-laid}
-use Rattle.hits_render.proofs.put_part.Statement.{statement}
-use Rattle.hits_render.proofs.put_part.Tie as tie
+use Rattle.hits_parts.proofs.Parted.{hit-laid, gap-laid}
+use Rattle.hits_parts.proofs.put_part.Statement.{statement}
+use Rattle.hits_parts.proofs.put_part.Tie as tie
 
 enum-known-part : tie.Need-enum-known-part
 enum-known-part c = search needs

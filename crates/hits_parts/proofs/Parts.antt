@@ -17,7 +17,7 @@ use Rattle.model.proofs.Checking.{size-pos}
 use Rattle.model.proofs.Tests.{both, and-true, lt-or-le}
 use Rattle.model.specs.Certificate.{Part, answer, gap, numberOf, sizeOf, Reading, unreadable, read, readBody, readField}
 use Rattle.text_write.specs.Laying.{Lays}
-use Rattle.hits_render.specs.Text.{partLine, partLines, partsFrom, partsHeld}
+use Rattle.hits_parts.specs.Parts.{partLine, partLines, partsFrom, partsHeld}
 use Rattle.text_write.proofs.Laid.{lays-none, lays-then, lays-length, lays-bound}
 
 -- ---- what a field that reads is
