@@ -1,5 +1,5 @@
 -- The refusals that the program can print: 12 of an input that is not a question, and of a question 1, 2, 4 or 7. The ends that an input gives never
--- fall and the last is the number of numbers, so 3 does not occur; and for 1,024 numbers the buffers are enough, so 5 and 6 do not. Assumes nothing.
+-- fall and the last is the number of numbers, so 3 does not occur; and for so few numbers the buffers are enough, so 5 and 6 do not. Assumes nothing.
 use Prim.Native.Nat.{ℕ, zero, suc, _+_, _-_, _*_, _/_, _%_, _≤_, _<_}
 use borrow.Author.Tests.{leb-true, ltb-false, lt-ltb, le-ltb, eq-eqb, ne-eqb}
 use lib.Dec.{leb, ltb, eqb}
@@ -13,12 +13,14 @@ use native.Mathlib.Omega.{arith}
 use Rattle.model.specs.Certificate.{Part, answer, gap}
 use Rattle.model.specs.Demands.{Fits}
 use Rattle.model.specs.Refusals.{Check, passed, refusal, _then_, refuseIf, refuseAt, fallsFrom, lastEnd, firstChecks, Outcome, accepted, refused, query}
-use Rattle.model.specs.Runs.{lastBin, pastBin, runs}
+use Rattle.model.specs.Runs.{lastBin, pastBin, mostNumbers, runs}
 use Rattle.model.proofs.Enough.{room-enough}
 use Rattle.model.proofs.Tests.{lt-or-le, and-true, or-false}
 use Rattle.hits_input.specs.Input as text
+use Rattle.hits_limits.specs.Limits.{mostBytes, inputRuns, inputNumbers, answerRoom, certificateRoom}
 use Rattle.text_write.specs.Lines.{decimalIn, decimal, numbersAfter, line}
-use Rattle.hits_render.specs.Text.{partLine, partLines, doneLine, refuseLine, partsHeld, rendered}
+use Rattle.hits_parts.specs.Parts.{partLine, partLines, partsHeld}
+use Rattle.hits_render.specs.Text.{doneLine, refuseLine, rendered}
 use Rattle.hits_ask.specs.Ask.{shown, asked, textFor}
 use Rattle.hits_text.specs.Hits.{parsed, hits, Printable}
 use Rattle.hits_text.proofs.Printing.{take-over, ends-length, refused-not, prints-refusal, prints-question}
@@ -143,7 +145,7 @@ ends-last b (r ∷ rs) =
 
 -- ---- the question of an input
 
--- A question's numbers and ends are those of some runs, at most 1,024 numbers, each of them a bin.
+-- A question's numbers and ends are those of some runs, at most as many numbers as there is room for, each of them a bin.
 record Runs (p : text.Result) (limit runs count : ℕ) : Type 0 where
   rs : List (List ℕ)
   numbers-are : take count (p .numbers) ≡ text.row rs
@@ -186,13 +188,13 @@ lines-runs longer (l ∷ next ∷ ls) a b t x n m e =
 parse-runs : (input a b : List ℕ) (t allowance n m : ℕ) → text.parse input a b .outcome ≡ text.question t allowance n m
     → Runs (text.parse input a b) (length a) n m
 unfolding text.parse
-parse-runs input a b t x n m e = lines-runs (ltb text.mostBytes (length input)) (split 10 (take text.mostBytes input)) a b t x n m e
+parse-runs input a b t x n m e = lines-runs (ltb mostBytes (length input)) (split 10 (take mostBytes input)) a b t x n m e
 
-parsed-runs : (input : List ℕ) (t allowance n m : ℕ) → parsed input .outcome ≡ text.question t allowance n m → Runs (parsed input) 1024 n m
+parsed-runs : (input : List ℕ) (t allowance n m : ℕ) → parsed input .outcome ≡ text.question t allowance n m → Runs (parsed input) inputNumbers n m
 unfolding parsed
 parsed-runs input t x n m e =
-    subst (λ k. Runs (text.parse input (replicate 1024 0) (replicate 64 0)) k n m) (length-replicate {A = ℕ} 1024 0)
-    (parse-runs input (replicate 1024 0) (replicate 64 0) t x n m e)
+    subst (λ k. Runs (text.parse input (replicate inputNumbers 0) (replicate inputRuns 0)) k n m) (length-replicate {A = ℕ} inputNumbers 0)
+    (parse-runs input (replicate inputNumbers 0) (replicate inputRuns 0) t x n m e)
 
 -- ---- the first checks of such a question refuse by 1, 2 or 4
 
@@ -224,13 +226,13 @@ none-falls : (o : Option ℕ) → o ≡ none → refuseAt 3 o ≡ passed
 unfolding refuseAt
 none-falls o e = rw (e, refuseAt)
 
-none-left : (last count p : ℕ) → last ≡ count → count ≤ 1024 → refuseIf (not (eqb last count) || ltb 1048576 count) 3 p ≡ passed
-unfolding refuseIf
+none-left : (last count p : ℕ) → last ≡ count → count ≤ inputNumbers → refuseIf (not (eqb last count) || ltb mostNumbers count) 3 p ≡ passed
+unfolding refuseIf inputNumbers
 none-left last count p e h =
-    let l : count ≤ 1048576 = omega arith in
-    rw (eq-eqb last count e, le-ltb 1048576 count l)
+    let l : count ≤ mostNumbers = omega arith in
+    rw (eq-eqb last count e, le-ltb mostNumbers count l)
 
-door : (rs : List (List ℕ)) (t : ℕ) → length (text.row rs) ≤ 1024 → Door (firstChecks (text.row rs) (text.endsFrom 0 rs) t)
+door : (rs : List (List ℕ)) (t : ℕ) → length (text.row rs) ≤ inputNumbers → Door (firstChecks (text.row rs) (text.endsFrom 0 rs) t)
 unfolding firstChecks OfThese
 door rs t h =
     let l : lastEnd 0 (text.endsFrom 0 rs) ≡ length (text.row rs) = let k = ends-last 0 rs in omega arith in
@@ -242,12 +244,12 @@ door rs t h =
 
 -- ---- the laws
 
-runs-refused : (rs : List (List ℕ)) (t allowance : ℕ) (answers certificate : List ℕ) → Kept 1024 0 rs → length answers ≡ 1024 → length certificate ≡ 65536
+runs-refused : (rs : List (List ℕ)) (t allowance : ℕ) (answers certificate : List ℕ) → Kept inputNumbers 0 rs → length answers ≡ answerRoom → length certificate ≡ certificateRoom
     → (n p a b q : ℕ) → query (text.row rs) (text.endsFrom 0 rs) t allowance answers certificate .outcome ≡ refused n p a b q → OfThese n ⊎ (n ≡ 7)
-unfolding query
+unfolding query inputNumbers answerRoom certificateRoom
 runs-refused rs t allowance answers certificate k e f n p a b q o = go (firstChecks (text.row rs) (text.endsFrom 0 rs) t) refl
   where
-    few : length (text.row rs) ≤ 1024
+    few : length (text.row rs) ≤ inputNumbers
     few = omega (arith, k .few)
 
     room : length (text.row rs) ≤ length answers
@@ -276,7 +278,7 @@ refusals input t allowance runs count e n p a b q o =
     ⊎-elim
     (λ (h : OfThese n). ⊎-elim (λ i. inl i) (λ h. ⊎-elim (λ i. inr (inl i)) (λ i. inr (inr (inl i))) h) h)
     (λ i. inr (inr (inr i)))
-    (runs-refused (r .rs) t allowance (replicate 1024 0) (replicate 65536 0) (r .kept) (length-replicate {A = ℕ} 1024 0) (length-replicate {A = ℕ} 65536 0) n p a b q (sym s ∙ o))
+    (runs-refused (r .rs) t allowance (replicate answerRoom 0) (replicate certificateRoom 0) (r .kept) (length-replicate {A = ℕ} answerRoom 0) (length-replicate {A = ℕ} certificateRoom 0) n p a b q (sym s ∙ o))
 
 -- An input that is not a question is refused as 12.
 result-fault : (h : text.Heading) (l : text.Lines) (a b : List ℕ) (n p : ℕ) → text.resultOf h l a b .outcome ≡ text.refused n p → n ≡ 12
@@ -294,7 +296,7 @@ lines-fault longer (l ∷ next ∷ ls) a b n p e =
 
 pub fault : (input : List ℕ) (n p : ℕ) → parsed input .outcome ≡ text.refused n p → n ≡ 12
 unfolding parsed text.parse
-fault input n p e = lines-fault (ltb text.mostBytes (length input)) (split 10 (take text.mostBytes input)) (replicate 1024 0) (replicate 64 0) n p e
+fault input n p e = lines-fault (ltb mostBytes (length input)) (split 10 (take mostBytes input)) (replicate inputNumbers 0) (replicate inputRuns 0) n p e
 
 -- An answer is printed, or a refusal by 1, 2, 4, 7 or 12.
 data Prints (text : List ℕ) : Type 0 where

@@ -5,12 +5,13 @@ use mathlib.Core.Logic.{_⊎_}
 use mathlib.Core.Path.{_≡_}
 use lib.ListN.{take, replicate}
 use Rattle.hits_input.specs.Input as text
+use Rattle.hits_limits.specs.Limits.{inputRuns, inputNumbers}
 use Rattle.hits_render.specs.Text.{refuseLine}
 use Rattle.hits_ask.specs.Ask.{textFor}
 
--- The input is refused, or is a question of at most 1,024 numbers in at most 64 runs.
+-- The input is refused, or is a question of at most so many numbers and runs as there is room for.
 unfoldable pub parsed : List ℕ → text.Result
-parsed input = text.parse input (replicate 1024 0) (replicate 64 0)
+parsed input = text.parse input (replicate inputNumbers 0) (replicate inputRuns 0)
 
 unfoldable pub printed : text.Result → List ℕ
 printed p =

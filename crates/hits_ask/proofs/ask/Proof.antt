@@ -8,17 +8,17 @@ use Rattle.model.specs.Runs.{pastBin}
 use Rattle.model.proofs.FirstChecks.{fits}
 use Rattle.hits_render.specs.Text.{Shows}
 use Rattle.hits_render.specs.declared.Rendered.the-variants.{Text}
-use Rattle.hits_ask.specs.Ask.{mostText}
+use Rattle.hits_limits.specs.Limits.{mostText}
 use Rattle.hits_ask.proofs.Asking.{ask-text}
 use borrow.Author.Needs.{needs}
 use Rattle.hits_ask.proofs.ask.Statement.{statement}
 use Rattle.hits_ask.proofs.ask.Tie as tie
 
-room-for-numbers-requires : tie.Need-room-for-numbers-requires
-room-for-numbers-requires c κs = search needs
+room-for-answers-requires : tie.Need-room-for-answers-requires
+room-for-answers-requires c κs = search needs
 
-room-for-bytes-requires : tie.Need-room-for-bytes-requires
-room-for-bytes-requires c κs = search needs
+room-for-certificate-requires : tie.Need-room-for-certificate-requires
+room-for-certificate-requires c κs = search needs
 
 slice-aggregate-ask-in : tie.Need-slice-aggregate-ask-in
 slice-aggregate-ask-in c = search needs
@@ -44,8 +44,8 @@ returns c =
     let n = b .before in
     let f = n .before .before .before in
     let a = f .before .args in
-    let k = sym (n .room-for-numbers .ensures) in
-    let l = sym (b .room-for-bytes .ensures) in
+    let k = n .room-for-answers .ensures in
+    let l = b .room-for-certificate .ensures in
     let e = ask-text (a .numbers .now) (a .ends .now) (a .threshold) (a .allowance) _ _ (fits-bins f) k l in (
       subst (λ x. Shows x (a .text .now) (u .ask-in .last .1 .1 .1 .1 .1 .1 .0) (u .ask-in .result)) e (u .ask-in .ensures .0),
       λ h. u .ask-in .ensures .1 (omega arith) ∙ ap (λ x. Text (length x)) e,
@@ -55,8 +55,8 @@ pub ask-spec : {M : Type 1} → statement M
 ask-spec =
     tie.close
     (tie.spec
-    room-for-numbers-requires
-    room-for-bytes-requires
+    room-for-answers-requires
+    room-for-certificate-requires
     slice-aggregate-ask-in
     slice-aggregate-ask-in-2
     ask-in-requires

@@ -7,7 +7,7 @@ use Rattle.hits_parse.specs.Parsed.{outcomeIs, Returns}
 use Rattle.hits_input.specs.Input as text
 use Rattle.hits_render.specs.Text.{Shows}
 use Rattle.hits_render.specs.declared.Rendered.the-variants.{Text}
-use Rattle.hits_ask.specs.Ask.{mostText}
+use Rattle.hits_limits.specs.Limits.{mostText}
 use Rattle.hits_text.proofs.Printing.{refusal-text, question-text, question-fits}
 use borrow.Author.Needs.{needs}
 use Rattle.hits_text.proofs.text_in.Statement.{statement}
