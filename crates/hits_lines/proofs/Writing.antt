@@ -15,7 +15,7 @@ use native.Mathlib.Omega.{arith}
 use Rattle.model.proofs.Slices.{part-length}
 use Rattle.model.proofs.Tests.{both, eq-or-ne, or-false}
 use Rattle.hits_limits.specs.Limits.{mostBytes}
-use Rattle.hits_input.specs.Input.{before, numbersOf, runOf, Lines, runsAre, faultAt, withRun, linesFrom, row, endsFrom}
+use Rattle.hits_input.specs.Input.{before, numbersOf, runOf, Lines, runsAre, faultAt, runBefore, linesFrom, row, endsFrom}
 use Rattle.text_read.specs.Pieces.{split, until}
 use Rattle.text_read.specs.Numbers.{number}
 use Rattle.hits_line.specs.Line.{leading}
@@ -60,9 +60,9 @@ run-few (b ∷ line) e = let l = leading-all (split 32 (b ∷ line)) e .1 in let
 not-runs : {A : Type 0} {line : ℕ} {rs : List (List ℕ)} → faultAt line ≡ runsAre rs → A
 not-runs e = let z : _≡_ {A = ℕ} 0 1 = cc in absurd (omega arith)
 
-with-runs : (run : List ℕ) (lines : Lines) {rs : List (List ℕ)} → withRun run lines ≡ runsAre rs
+with-runs : (run : List ℕ) (lines : Lines) {rs : List (List ℕ)} → runBefore run lines ≡ runsAre rs
     → (lines ≡ runsAre (runsIn lines)) × (rs ≡ run ∷ runsIn lines)
-unfolding withRun runsIn
+unfolding runBefore runsIn
 with-runs run (runsAre rs) e = (refl, sym (ap runsIn e))
 with-runs run (faultAt line) e = not-runs e
 

@@ -6,9 +6,9 @@ use Rattle.model.specs.Refusals.{_then_, refuseIf, refuseAt, fallsFrom, lastEnd
 use Rattle.model.specs.Runs.{firstBin, lastBin, pastBin, runsFrom, runs, unrisenAfter, unrisen, total, one, count, mask}
 use Rattle.model.specs.Walk.{headOf, head, leastHead, tthHead, doubling, halving, seek, searchIn, searches, searched, movedOn, settle, round, walk}
 use Rattle.text_read.specs.Pieces.{onFirst, split}
-use Rattle.text_read.specs.Numbers.{allDigits, digitsValue, number}
+use Rattle.text_read.specs.Numbers.{allDigits, decimalValue, number}
 use Rattle.text_write.specs.Lines.{decimalIn, decimal, numbersAfter, line}
-use Rattle.hits_input.specs.Input.{before, numbersOf, pair, twoWords, headingOf, runOf, withRun, linesFrom, limited, row, endsFrom, resultOf, parseLines, parse}
+use Rattle.hits_input.specs.Input.{before, numbersOf, pair, twoWords, headingOf, runOf, runBefore, linesFrom, limited, row, endsFrom, resultOf, parseLines, parse}
 use Rattle.hits_limits.specs.Limits.{mostBytes, inputRuns, inputNumbers, answerRoom, certificateRoom}
 use Rattle.hits_input.specs.Instances.{bytes}
 use Rattle.hits_parts.specs.Parts.{partLine, partLines, partsFrom, partsHeld}
@@ -19,7 +19,7 @@ use Rattle.hits_text.specs.Instances.{listingInput, listingText, refused
 
 pub listing-printed : (hits listingInput ≡ listingText) × (hits refusedInput ≡ refusedText)
 unfolding listingInput listingText refusedInput refusedText bytes hits printed parsed textFor asked shown
-    mostBytes inputRuns inputNumbers answerRoom certificateRoom onFirst split allDigits digitsValue number before numbersOf pair twoWords headingOf runOf withRun linesFrom limited row endsFrom resultOf parseLines parse
+    mostBytes inputRuns inputNumbers answerRoom certificateRoom onFirst split allDigits decimalValue number before numbersOf pair twoWords headingOf runOf runBefore linesFrom limited row endsFrom resultOf parseLines parse
     firstOf lastOf answersOf bytesOf numberOf field encodePart encode readBody readField wholeWalk partsOf cost probe probesOf
     _then_ refuseIf refuseAt fallsFrom lastEnd unrisenIn firstChecks met after cut cutWalk over outcomeOf query
     firstBin lastBin pastBin runsFrom runs unrisenAfter unrisen total one count mask

@@ -24,7 +24,7 @@ use Rattle.hits_render.specs.Text.{doneLine, refuseLine, rendered}
 use Rattle.hits_ask.specs.Ask.{shown, asked, textFor}
 use Rattle.hits_text.specs.Hits.{parsed, hits, Printable}
 use Rattle.hits_text.proofs.Printing.{take-over, ends-length, refused-not, prints-refusal, prints-question}
-use Rattle.text_read.specs.Numbers.{allDigits, digitsValue, number}
+use Rattle.text_read.specs.Numbers.{allDigits, decimalValue, number}
 use Rattle.text_read.specs.Pieces.{split}
 
 -- ---- every number of an input is a bin
@@ -49,7 +49,7 @@ number-bin : (word : List ℕ) (x : ℕ) → number word ≡ some x → x < past
 unfolding number lastBin pastBin
 number-bin [] x e = absurd (let z : _≡_ {A = ℕ} 0 1 = cc in omega arith)
 number-bin (b ∷ word) x e =
-    let n = digitsValue 0 (b ∷ word) in
+    let n = decimalValue 0 (b ∷ word) in
     let t = taken (allDigits (b ∷ word) && leb n lastBin) n x e in
     let k = leb-true n lastBin (and-true (allDigits (b ∷ word)) (leb n lastBin) (t .0) .1) in
     let i : n ≡ x = t .1 in
@@ -90,8 +90,8 @@ kept-run run rs h k =
     record { few = omega (arith, k .few); bins = fits-append run (text.row rs) h (k .bins) }
 
 kept-with : {limit n : ℕ} (run : List ℕ) (l : text.Lines) (rs : List (List ℕ)) → Fits pastBin run
-    → ((qs : List (List ℕ)) → l ≡ text.runsAre qs → Kept limit (n + length run) qs) → text.withRun run l ≡ text.runsAre rs → Kept limit n rs
-unfolding text.withRun
+    → ((qs : List (List ℕ)) → l ≡ text.runsAre qs → Kept limit (n + length run) qs) → text.runBefore run l ≡ text.runsAre rs → Kept limit n rs
+unfolding text.runBefore
 kept-with {limit} {n} run (text.runsAre qs) rs h k e = let q : run ∷ qs ≡ rs = cc in subst (Kept limit n) q (kept-run run qs h (k qs refl))
 kept-with run (text.faultAt line) rs h k e = absurd (let z : _≡_ {A = ℕ} 0 1 = cc in omega arith)
 
@@ -114,7 +114,7 @@ kept-lines limits i n (line ∷ next ∷ ls) rs h e =
     fault k = absurd (let z : _≡_ {A = ℕ} 0 1 = cc in omega arith)
 
     one : (run : List ℕ) → Fits pastBin run → More → (b : Bool) → (leb (limits .runs) i || ltb (limits .numbers) (n + length run)) ≡ b
-        → elim b [ true ↦ text.faultAt (i + 2) | false ↦ text.withRun run (text.linesFrom limits (suc i) (n + length run) (next ∷ ls)) ] ≡ text.runsAre rs
+        → elim b [ true ↦ text.faultAt (i + 2) | false ↦ text.runBefore run (text.linesFrom limits (suc i) (n + length run) (next ∷ ls)) ] ≡ text.runsAre rs
         → Kept (limits .numbers) n rs
     one run f more true q k = fault k
     one run f more false q k =
