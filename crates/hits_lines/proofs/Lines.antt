@@ -13,7 +13,7 @@ use native.Mathlib.Omega.{arith}
 use Rattle.model.proofs.Slices.{part-length}
 use Rattle.text_read.specs.Pieces.{split, until}
 use Rattle.hits_input.specs.Input.{runOf, Lines, runsAre, faultAt, runBefore, linesFrom, row}
-use Rattle.hits_line.specs.Line.{countOf}
+use Rattle.hits_run.specs.Line.{countOf}
 use Rattle.hits_lines.specs.Lines.{scanned, linesAt}
 use Rattle.hits_lines.specs.declared.Scan.the-variants.{Runs, Fault}
 use Rattle.text_read.proofs.Pieces.{pieces, pieces-in, pieces-out, pieces-next}

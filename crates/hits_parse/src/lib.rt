@@ -6,7 +6,7 @@ ghost use Rattle.hits_limits.specs.Limits.{mostBytes};
 ghost use Rattle.hits_input.specs.Input.{parseLines, parse};
 ghost use Rattle.text_read.specs.Pieces.{split};
 ghost use Rattle.hits_parse.specs.Parsed.{outcomeIs, Returns};
-use hits_line::First;
+use hits_heading::First;
 use hits_lines::Scan;
 
 // A question with how many runs and numbers it has, or the number of the first line that cannot be read.
@@ -32,7 +32,7 @@ fn parse_bytes(bytes: &[u8], longer: bool, numbers: &mut [u32], ends: &mut [u32]
     let First::Pair {
         threshold,
         allowance,
-    } = hits_line::read_first(&bytes[0..end])
+    } = hits_heading::read_first(&bytes[0..end])
     else {
         return Parsed::Faulty(1);
     };

@@ -6,7 +6,7 @@ use Rattle.field_read.specs.Reading.{partOf}
 use Rattle.field_read.specs.declared.Part as code
 use Rattle.field_read.specs.declared.Part.the-variants.{Answer, Gap}
 use Rattle.text_write.specs.Laying.{Lays}
-use Rattle.text_write.specs.Lines.{line}
+use Rattle.text_lines.specs.Lines.{line}
 use Rattle.hits_parts.specs.Parts.{partLine}
 
 -- ---- the line of a part

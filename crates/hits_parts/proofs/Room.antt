@@ -11,7 +11,7 @@ use Rattle.model.proofs.Encoding.{drop-fits, read-field}
 use Rattle.model.specs.Certificate.{Part, answer, gap, numberOf, sizeOf, read, readField}
 use Rattle.model.specs.Demands.{Fits}
 use Rattle.text_write.proofs.Decimals.{decimal-few}
-use Rattle.text_write.proofs.Lines.{two-length, three-length}
+use Rattle.text_lines.proofs.Lines.{two-length, three-length}
 use Rattle.hits_parts.specs.Parts.{partLine, partLines, partsHeld}
 use Rattle.hits_parts.proofs.Parts.{Shape, field-shape, read-size, reads, held-none, held-stop, held-read}
 

@@ -3,7 +3,7 @@ use Prim.Native.Nat.{ℕ, zero, suc}
 use mathlib.Core.List.{List, [], _∷_, _++_}
 use lib.ListN.{length}
 use Rattle.model.specs.Certificate.{Part, answer, gap, unreadable, read, readField}
-use Rattle.text_write.specs.Lines.{line}
+use Rattle.text_lines.specs.Lines.{line}
 
 -- `gap` first last mask, or `hit` value mask, for each part
 unfoldable pub partLine : Part → List ℕ

@@ -13,7 +13,7 @@ fn put_part(text: &mut [u8], at: usize, part: Part) -> usize
     ensures { λ r. ⌜ Lays (partLine (partOf part)) (now (text .entry)) at (now (text .exit)) r ⌝ }
 {
     match part {
-        Part::Answer { value, mask } => text_write::put_two(
+        Part::Answer { value, mask } => text_lines::put_two(
             text,
             at,
             b"hit",
@@ -21,7 +21,7 @@ fn put_part(text: &mut [u8], at: usize, part: Part) -> usize
             mask,
         ),
         Part::Gap { first, last, mask } => {
-            text_write::put_three(
+            text_lines::put_three(
                 text,
                 at,
                 b"gap",

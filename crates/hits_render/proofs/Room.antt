@@ -9,7 +9,7 @@ use native.Mathlib.Omega.{arith}
 use Rattle.model.specs.Demands.{Fits}
 use Rattle.model.specs.Refusals.{accepted}
 use Rattle.text_write.proofs.Decimals.{decimal-few}
-use Rattle.text_write.proofs.Lines.{two-length, three-length}
+use Rattle.text_lines.proofs.Lines.{two-length, three-length}
 use Rattle.hits_limits.specs.Limits.{lineRoom}
 use Rattle.hits_parts.specs.Parts.{partLines, partsHeld}
 use Rattle.hits_parts.proofs.Room.{parts-room}

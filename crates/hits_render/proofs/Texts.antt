@@ -13,7 +13,7 @@ use Rattle.query.specs.Outcomes.{outcomeIs}
 use Rattle.query.specs.declared.Outcome as code
 use Rattle.query.specs.declared.Outcome.the-variants.{Refused}
 use Rattle.text_write.specs.Laying.{Lays}
-use Rattle.text_write.specs.Lines.{line}
+use Rattle.text_lines.specs.Lines.{line}
 use Rattle.hits_limits.specs.Limits.{lineRoom}
 use Rattle.hits_parts.specs.Parts.{partLines, partsHeld}
 use Rattle.hits_render.specs.Text.{doneLine, refuseLine, rendered, Shows}

@@ -8,7 +8,7 @@ use lib.ListN.{length, take}
 use Rattle.model.specs.Refusals.{Outcome, accepted, refused, over}
 use Rattle.hits_render.specs.declared.Rendered.{Rendered}
 use Rattle.hits_render.specs.declared.Rendered.the-variants.{Text, Full}
-use Rattle.text_write.specs.Lines.{line}
+use Rattle.text_lines.specs.Lines.{line}
 use Rattle.hits_parts.specs.Parts.{partLines, partsHeld}
 
 -- `done` answers parts probes

@@ -29,7 +29,7 @@ pub fn refuse(number: u8, place: usize, text: &mut [u8]) -> Rendered
     ensures shows { λ r. ⌜ Shows (refuseLine number place) (now (text .entry)) (now (text .exit)) r ⌝ }
     ensures enough { λ r. ⌜ (lineRoom ≤ length (now (text .entry)) → r ≡ Rendered.Text (length (refuseLine number place))) ⌝ }
 {
-    let end = text_write::put_two(
+    let end = text_lines::put_two(
         text,
         0,
         b"refuse",
@@ -53,7 +53,7 @@ fn accept(
 {
     let n = arith::least(bytes, certificate.len());
     let next = hits_parts::put_parts(text, &certificate[0..n]);
-    let end = text_write::put_three(
+    let end = text_lines::put_three(
         text,
         next,
         b"done",

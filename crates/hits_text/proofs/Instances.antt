@@ -7,7 +7,8 @@ use Rattle.model.specs.Runs.{firstBin, lastBin, pastBin, runsFrom, runs, unrise
 use Rattle.model.specs.Walk.{headOf, head, leastHead, tthHead, doubling, halving, seek, searchIn, searches, searched, movedOn, settle, round, walk}
 use Rattle.text_read.specs.Pieces.{onFirst, split}
 use Rattle.text_read.specs.Numbers.{allDigits, decimalValue, number}
-use Rattle.text_write.specs.Lines.{decimalIn, decimal, numbersAfter, line}
+use Rattle.text_write.specs.Decimal.{decimalIn, decimal}
+use Rattle.text_lines.specs.Lines.{numbersAfter, line}
 use Rattle.hits_input.specs.Input.{before, numbersOf, pair, twoWords, headingOf, runOf, runBefore, linesFrom, limited, row, endsFrom, resultOf, parseLines, parse}
 use Rattle.hits_limits.specs.Limits.{mostBytes, inputRuns, inputNumbers, answerRoom, certificateRoom}
 use Rattle.hits_input.specs.Instances.{bytes}

@@ -18,7 +18,8 @@ use Rattle.model.proofs.Enough.{room-enough}
 use Rattle.model.proofs.Tests.{lt-or-le, and-true, or-false}
 use Rattle.hits_input.specs.Input as text
 use Rattle.hits_limits.specs.Limits.{mostBytes, inputRuns, inputNumbers, answerRoom, certificateRoom}
-use Rattle.text_write.specs.Lines.{decimalIn, decimal, numbersAfter, line}
+use Rattle.text_write.specs.Decimal.{decimalIn, decimal}
+use Rattle.text_lines.specs.Lines.{numbersAfter, line}
 use Rattle.hits_parts.specs.Parts.{partLine, partLines, partsHeld}
 use Rattle.hits_render.specs.Text.{doneLine, refuseLine, rendered}
 use Rattle.hits_ask.specs.Ask.{shown, asked, textFor}

@@ -1,7 +1,7 @@
 -- The least and the largest number of a line in decimal, by computation. Assumes nothing.
 use mathlib.Core.List.{[], _∷_}
 use mathlib.Core.Path.{_≡_, refl}
-use Rattle.text_write.specs.Lines.{decimalIn, decimal}
+use Rattle.text_write.specs.Decimal.{decimalIn, decimal}
 
 pub zero-digit : decimal 0 ≡ 48 ∷ []
 unfolding decimalIn decimal

@@ -7,9 +7,9 @@ use mathlib.Core.Path.{_≡_, refl, sym, ap, _∙_}
 use native.Mathlib.Omega.{arith}
 use Rattle.hits_input.specs.Input.{pair, headingOf}
 use Rattle.text_read.specs.Numbers.{number, wordIs}
-use Rattle.hits_line.proofs.Headings.{heading-one, space-inside, next-inside, heading-more, heading-two}
-use Rattle.hits_line.proofs.read_first.Statement.{statement}
-use Rattle.hits_line.proofs.read_first.Tie as tie
+use Rattle.hits_heading.proofs.Headings.{heading-one, space-inside, next-inside, heading-more, heading-two}
+use Rattle.hits_heading.proofs.read_first.Statement.{statement}
+use Rattle.hits_heading.proofs.read_first.Tie as tie
 
 first-of-requires : tie.Need-first-of-requires
 first-of-requires c κs = search needs

@@ -1,8 +1,8 @@
--- `render::put_two` lays the word and then the rest of the line. Assumes nothing.
+-- `put_two` lays the word and then the rest of the line. Assumes nothing.
 use borrow.Author.Needs.{needs}
-use Rattle.text_write.proofs.Lines.{two-laid}
-use Rattle.text_write.proofs.put_two.Statement.{statement}
-use Rattle.text_write.proofs.put_two.Tie as tie
+use Rattle.text_lines.proofs.Lines.{two-laid}
+use Rattle.text_lines.proofs.put_two.Statement.{statement}
+use Rattle.text_lines.proofs.put_two.Tie as tie
 
 put-word-requires : tie.Need-put-word-requires
 put-word-requires c κs = search needs

@@ -6,11 +6,11 @@ use mathlib.Core.Path.{sym, ap, _∙_}
 use native.Mathlib.Omega.{arith}
 use Rattle.text_read.specs.Pieces.{split}
 use Rattle.text_read.specs.Numbers.{wordIs}
-use Rattle.hits_line.specs.Line.{leading}
+use Rattle.hits_run.specs.Line.{leading}
 use Rattle.text_read.proofs.Pieces.{piece-ends}
-use Rattle.hits_line.proofs.Words.{Storing, storing-start, storing-on, storing-room, storing-stop, storing-end, word-inside}
-use Rattle.hits_line.proofs.write_run.Statement.{statement}
-use Rattle.hits_line.proofs.write_run.Tie as tie
+use Rattle.hits_run.proofs.Words.{Storing, storing-start, storing-on, storing-room, storing-stop, storing-end, word-inside}
+use Rattle.hits_run.proofs.write_run.Statement.{statement}
+use Rattle.hits_run.proofs.write_run.Tie as tie
 
 abbrev Inv-loop : tie.InvT-loop
 Inv-loop line numbers₀ from at₀ n₀ numbers at n = Storing line numbers₀ from numbers n at × (from + length (leading (split 32 line)) ≤ length numbers₀)

@@ -1,18 +1,11 @@
--- What the functions on one line compute, and what the code's enums mean. Definitions only.
+-- What the functions on a run's line compute, and what the code's enum means. Definitions only.
 use Prim.Native.Nat.{ℕ}
 use mathlib.Core.List.{List, [], _∷_}
 use mathlib.Core.Option.{Option, none, some}
 use lib.ListN.{length}
 use Rattle.text_read.specs.Numbers.{number}
-use Rattle.hits_input.specs.Input.{Heading, noHeading, heading}
-use Rattle.hits_line.specs.declared.First.{First}
-use Rattle.hits_line.specs.declared.First.the-variants.{Pair, NoPair}
-use Rattle.hits_line.specs.declared.Run.{Run}
-use Rattle.hits_line.specs.declared.Run.the-variants.{Numbers, NoRun}
-
-abbrev pub headingIs : First → Heading
-headingIs (Pair t allowance) = heading t allowance
-headingIs NoPair = noHeading
+use Rattle.hits_run.specs.declared.Run.{Run}
+use Rattle.hits_run.specs.declared.Run.the-variants.{Numbers, NoRun}
 
 -- how many numbers a run has
 abbrev pub countIs : Run → Option ℕ

@@ -1,8 +1,8 @@
--- `render::put_last` lays two numbers and the line's end. Assumes nothing.
+-- `put_last` lays two numbers and the line's end. Assumes nothing.
 use borrow.Author.Needs.{needs}
-use Rattle.text_write.proofs.Lines.{last-laid}
-use Rattle.text_write.proofs.put_last.Statement.{statement}
-use Rattle.text_write.proofs.put_last.Tie as tie
+use Rattle.text_lines.proofs.Lines.{last-laid}
+use Rattle.text_lines.proofs.put_last.Statement.{statement}
+use Rattle.text_lines.proofs.put_last.Tie as tie
 
 put-after-requires : tie.Need-put-after-requires
 put-after-requires c κs = search needs

@@ -7,11 +7,11 @@ use mathlib.Core.Path.{_≡_, sym, ap, _∙_}
 use native.Mathlib.Omega.{arith}
 use Rattle.hits_input.specs.Input.{numbersOf, runOf}
 use Rattle.text_read.specs.Numbers.{wordIs}
-use Rattle.hits_line.specs.Line.{countOf}
+use Rattle.hits_run.specs.Line.{countOf}
 use Rattle.text_read.proofs.Pieces.{piece-ends}
-use Rattle.hits_line.proofs.Words.{wordsAt, countFrom, word-inside, count-empty, count-start, count-on, count-stop, count-end}
-use Rattle.hits_line.proofs.count_run.Statement.{statement}
-use Rattle.hits_line.proofs.count_run.Tie as tie
+use Rattle.hits_run.proofs.Words.{wordsAt, countFrom, word-inside, count-empty, count-start, count-on, count-stop, count-end}
+use Rattle.hits_run.proofs.count_run.Statement.{statement}
+use Rattle.hits_run.proofs.count_run.Tie as tie
 
 abbrev Inv-loop : tie.InvT-loop
 Inv-loop line at₀ n₀ at n = (at ≤ length line + 1) × (n ≤ at) × (countOf (runOf line) ≡ countFrom n (numbersOf (wordsAt line at)))

@@ -1,8 +1,8 @@
--- `render::put_three` lays the word, the first number and then the rest of the line. Assumes nothing.
+-- `put_three` lays the word, the first number and then the rest of the line. Assumes nothing.
 use borrow.Author.Needs.{needs}
-use Rattle.text_write.proofs.Lines.{three-laid}
-use Rattle.text_write.proofs.put_three.Statement.{statement}
-use Rattle.text_write.proofs.put_three.Tie as tie
+use Rattle.text_lines.proofs.Lines.{three-laid}
+use Rattle.text_lines.proofs.put_three.Statement.{statement}
+use Rattle.text_lines.proofs.put_three.Tie as tie
 
 put-word-requires : tie.Need-put-word-requires
 put-word-requires c κs = search needs

@@ -1,47 +1,17 @@
-// One line of the input of the program hits: line 1, or a run.
+// A further line of the input of the program hits: how many numbers its run has, and the numbers stored in a lent row.
 ghost use mathlib.Core.Path.{_≡_};
 ghost use Prim.Native.Nat.{_+_, _≤_};
 ghost use lib.ListN.{length};
 ghost use lib.Seq.{sets};
-ghost use Rattle.hits_input.specs.Input.{headingOf, runOf};
+ghost use Rattle.hits_input.specs.Input.{runOf};
 ghost use Rattle.text_read.specs.Pieces.{split};
-ghost use Rattle.hits_line.specs.Line.{headingIs, countIs, countOf, leading};
+ghost use Rattle.hits_run.specs.Line.{countIs, countOf, leading};
 use text_read::Word;
-
-// Line 1.
-pub enum First {
-    Pair { threshold: u32, allowance: u32 },
-    NoPair,
-}
 
 // A further line: how many numbers its run has.
 pub enum Run {
     Numbers(usize),
     NoRun,
-}
-
-// Line 1: two words, both numbers.
-pub fn read_first(line: &[u8]) -> First
-    ensures { λ r. ⌜ headingIs r ≡ headingOf (now (line .entry)) ⌝ }
-{
-    let end = text_read::first_of(line, 32);
-    if end == line.len() {
-        return First::NoPair;
-    }
-    let next = end + 1;
-    if next + text_read::first_of(&line[next..], 32) != line.len() {
-        return First::NoPair;
-    }
-    let Word::Number(threshold) = text_read::read_word(&line[0..end]) else {
-        return First::NoPair;
-    };
-    let Word::Number(allowance) = text_read::read_word(&line[next..]) else {
-        return First::NoPair;
-    };
-    First::Pair {
-        threshold: threshold,
-        allowance: allowance,
-    }
 }
 
 // How many numbers a run's line has.

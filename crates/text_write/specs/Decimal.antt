@@ -1,4 +1,4 @@
--- Numbers in decimal, and lines of a word and numbers. Definitions only.
+-- Numbers in decimal. Definitions only.
 use Prim.Native.Nat.{ℕ, zero, suc, _+_, _/_, _%_}
 use mathlib.Core.Bool.{true, false}
 use mathlib.Core.List.{List, [], _∷_, _++_}
@@ -11,11 +11,3 @@ decimalIn (suc fuel) x = elim (ltb x 10) [ true ↦ (48 + x) ∷ [] | false ↦ 
 
 unfoldable pub decimal : ℕ → List ℕ
 decimal x = decimalIn (suc x) x
-
--- A line: a word and numbers, a space before each number, and byte 10 at the end.
-unfoldable pub numbersAfter : List ℕ → List ℕ
-numbersAfter [] = 10 ∷ []
-numbersAfter (x ∷ xs) = 32 ∷ (decimal x ++ numbersAfter xs)
-
-unfoldable pub line : List ℕ → List ℕ → List ℕ
-line word xs = word ++ numbersAfter xs

@@ -11,7 +11,7 @@ use native.Mathlib.Omega.{arith}
 use Rattle.text_read.specs.Pieces.{split, until}
 use Rattle.text_read.specs.Numbers.{number}
 use Rattle.hits_input.specs.Input.{before, numbersOf, runOf}
-use Rattle.hits_line.specs.Line.{countOf, leading}
+use Rattle.hits_run.specs.Line.{countOf, leading}
 use Rattle.text_read.proofs.Pieces.{pieces, pieces-out, pieces-start, pieces-next}
 
 -- the words from a place on

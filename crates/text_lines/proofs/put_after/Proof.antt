@@ -1,8 +1,8 @@
--- `render::put_after` lays the space and then the number. Assumes nothing.
+-- `put_after` lays the space and then the number. Assumes nothing.
 use borrow.Author.Needs.{needs}
-use Rattle.text_write.proofs.Lines.{after-laid}
-use Rattle.text_write.proofs.put_after.Statement.{statement}
-use Rattle.text_write.proofs.put_after.Tie as tie
+use Rattle.text_lines.proofs.Lines.{after-laid}
+use Rattle.text_lines.proofs.put_after.Statement.{statement}
+use Rattle.text_lines.proofs.put_after.Tie as tie
 
 put-requires : tie.Need-put-requires
 put-requires c κs = search needs
