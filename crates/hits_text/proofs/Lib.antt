@@ -1,3 +1,1 @@
-pub mod Instances
 pub mod Printing
-pub mod Refusals
