@@ -1,4 +1,4 @@
--- The parts that some bytes hold: the first and the rest, how many bytes each takes, and that its numbers are of 32 and of 64 bits; and the parts' lines
+-- The parts that some bytes hold: the first and the rest, and how many bytes each takes; and the parts' lines
 -- laid one after another. Assumes nothing.
 use Prim.Native.Nat.{ℕ, zero, suc, _+_, _≤_, _<_}
 use borrow.Author.Tests.{leb-true, lt-ltb, le-ltb}

@@ -1,4 +1,4 @@
--- The words of a line, one after another: the heading, the count of a run's numbers, and the numbers themselves. Assumes nothing.
+-- The words of a run's line, one after another: how many numbers they are, and the numbers stored. Assumes nothing.
 use Prim.Native.Nat.{ℕ, _+_, _-_, _≤_, _<_}
 use lib.ListN.{length, take, drop, set, length-set}
 use lib.Seq.{sets}
