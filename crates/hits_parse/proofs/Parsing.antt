@@ -48,7 +48,7 @@ over-sets : (xs l : List ℕ) → length xs ≤ length l → sets l 0 xs ≡ ove
 unfolding over
 over-sets xs l h = let z : 0 + length xs ≡ length xs = omega arith in sets-eq xs l 0 (omega arith) ∙ ap (λ x. xs ++ drop x l) z
 
-ends-length : (start : ℕ) (rs : List (List ℕ)) → length (endsFrom start rs) ≡ length rs
+pub ends-length : (start : ℕ) (rs : List (List ℕ)) → length (endsFrom start rs) ≡ length rs
 unfolding endsFrom
 ends-length start [] = refl
 ends-length start (run ∷ rs) = ap suc (ends-length (start + length run) rs)

@@ -5,7 +5,7 @@ use borrow.Author.Tests.{leb-true, ltb-false, lt-ltb, le-ltb, eq-eqb, ne-eqb}
 use lib.Dec.{leb, ltb, eqb}
 use lib.ListN.{length, take, replicate, length-replicate, length-append}
 use mathlib.Core.Bool.{Bool, true, false, _&&_, _||_, not}
-use mathlib.Core.List.{List, [], _∷_, _++_, append-assoc, List·Memᴰ, List·Memᴰ·head, List·Memᴰ·tail, List·Memᴰ·not-nil, List·Memᴰ·cases-cons}
+use mathlib.Core.List.{List, [], _∷_, _++_, append-assoc, List·Memᴰ·head, List·Memᴰ·tail, List·Memᴰ·not-nil, List·Memᴰ·cases-cons}
 use mathlib.Core.Logic.{_⊎_, inl, inr, ⊎-elim, _≢_}
 use mathlib.Core.Option.{Option, none, some}
 use mathlib.Core.Path.{_≡_, refl, sym, ap, _∙_, subst}
@@ -23,9 +23,10 @@ use Rattle.text_lines.specs.Lines.{numbersAfter, line}
 use Rattle.hits_parts.specs.Parts.{partLine, partLines, partsHeld}
 use Rattle.hits_render.specs.Text.{doneLine, refuseLine, rendered}
 use Rattle.hits_ask.specs.Ask.{shown, asked, textFor}
+use Rattle.hits_parse.proofs.Parsing.{ends-length}
 use Rattle.hits_text.specs.Hits.{parsed, hits}
 use Rattle.hits_printed.specs.Refusals.{Printable}
-use Rattle.hits_text.proofs.Printing.{take-over, ends-length, refused-not, prints-refusal, prints-question}
+use Rattle.hits_text.proofs.Printing.{take-over, refused-not, prints-refusal, prints-question}
 use Rattle.text_read.specs.Numbers.{allDigits, decimalValue, number}
 use Rattle.text_read.specs.Pieces.{split}
 

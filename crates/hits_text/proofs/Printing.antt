@@ -1,5 +1,5 @@
 -- What stands in the program's buffers before is of no account: only their lengths matter. Assumes nothing.
-use Prim.Native.Nat.{ℕ, suc, _+_, _-_, _≤_}
+use Prim.Native.Nat.{ℕ, _-_, _≤_}
 use lib.Dec.{ltb}
 use lib.ListN.{length, take, drop, replicate, length-replicate, length-append}
 use lib.Seq.{take-append-seam}
@@ -10,6 +10,7 @@ use native.Mathlib.Omega.{arith}
 use Rattle.model.specs.Refusals.{over}
 use Rattle.model.specs.Runs.{runs}
 use Rattle.hits_parse.specs.Parsed.{Returns}
+use Rattle.hits_parse.proofs.Parsing.{ends-length}
 use Rattle.hits_input.specs.Input as text
 use Rattle.hits_limits.specs.Limits.{mostBytes, inputRuns, inputNumbers}
 use Rattle.hits_render.specs.Text.{refuseLine}
@@ -28,11 +29,6 @@ pub record Same (p q : text.Result) : Type 0 where
 pub take-over : (n : ℕ) (written buffer : List ℕ) → n ≡ length written → take n (over written buffer) ≡ written
 unfolding over
 take-over n written buffer e = ap (λ x. take x (written ++ drop (length written) buffer)) e ∙ take-append-seam written (drop (length written) buffer)
-
-pub ends-length : (start : ℕ) (rs : List (List ℕ)) → length (text.endsFrom start rs) ≡ length rs
-unfolding text.endsFrom
-ends-length start [] = refl
-ends-length start (r ∷ rs) = ap suc (ends-length (start + length r) rs)
 
 pub refused-not : {A : Type 0} {p q t x n m : ℕ} → text.refused p q ≡ text.question t x n m → A
 refused-not e = let z : _≡_ {A = ℕ} 0 1 = cc in absurd (omega arith)
