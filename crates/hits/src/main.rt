@@ -2,16 +2,9 @@
 ghost use mathlib.Core.Path.{_≡_};
 ghost use Prim.Native.Nat.{_≤_};
 ghost use lib.ListN.{length, take};
-ghost use Rattle.hits_ask.specs.Ask.{mostText};
+ghost use Rattle.hits_limits.specs.Limits.{mostText};
 ghost use Rattle.hits_text.specs.Hits.{hits};
 use hits_render::Rendered;
-
-// Room for every text, 262,208 bytes.
-fn room_for_text() -> [u8; 262208]
-    ensures { λ r. ⌜ 262208 ≡ length r ⌝ }
-{
-    [0; 262208]
-}
 
 // Writes the text for an input, and returns how long it is: the first bytes of the buffer, as many as are returned, are the text.
 fn write_text(input: &[u8], text: &mut [u8]) -> usize
@@ -32,13 +25,13 @@ fn print_text(input: &[u8], text: &mut [u8])
 }
 
 fn answer(input: &[u8]) {
-    let mut text = room_for_text();
-    print_text(input, &mut text[0..262208]);
+    let mut text = hits_limits::room_for_text();
+    print_text(input, &mut text);
 }
 
 // One byte more than a question may have is read, so that the fault of byte 65,537 is seen.
 fn main() {
-    let mut input = [0u8; 65537];
+    let mut input = [0u8; limits::HITS_BYTES + 1];
     let n = io::read_full(0, &mut input);
     answer(&input[..n]);
 }

@@ -1,13 +1,12 @@
 -- The text for a question is the same whatever stands in the buffers before. Assumes nothing.
-use Prim.Native.Nat.{ℕ, _-_}
-use lib.ListN.{length, take, drop, replicate, length-replicate}
-use lib.Seq.{length-take-le}
+use Prim.Native.Nat.{ℕ}
+use lib.ListN.{length, replicate, length-replicate}
 use mathlib.Core.List.{List}
 use mathlib.Core.Path.{_≡_, refl, sym, ap, _∙_}
-use native.Mathlib.Omega.{arith}
 use Rattle.model.specs.Demands.{Fits}
 use Rattle.model.specs.Refusals.{Check, passed, refusal, firstChecks, Outcome, accepted, refused, outcomeOf, cutWalk, query}
 use Rattle.model.specs.Runs.{pastBin, runs}
+use Rattle.hits_limits.specs.Limits.{answerRoom, certificateRoom}
 use Rattle.hits_render.proofs.Printed.{accepted-prints}
 use Rattle.hits_render.specs.Text.{rendered}
 use Rattle.hits_ask.specs.Ask.{shown, asked, textFor}
@@ -31,16 +30,12 @@ rendered-same numbers ends t allowance a b c d f (accepted x n y q) e g =
     accepted-prints numbers ends t allowance a b f x n y q e ∙ sym (accepted-prints numbers ends t allowance c d f x n y q g)
 rendered-same numbers ends t allowance a b c d f (refused x p y z q) e g = refl
 
-pub ask-text : (numbers ends : List ℕ) (t allowance : ℕ) (a b : List ℕ) → Fits pastBin numbers → length a ≡ 1024 → length b ≡ 65536
+pub ask-text : (numbers ends : List ℕ) (t allowance : ℕ) (a b : List ℕ) → Fits pastBin numbers → length a ≡ answerRoom → length b ≡ certificateRoom
     → shown (query numbers ends t allowance a b) ≡ textFor numbers ends t allowance
 unfolding textFor asked shown
 ask-text numbers ends t allowance a b f e g =
-    let c : List ℕ = replicate 1024 0 in
-    let d : List ℕ = replicate 65536 0 in
-    let o = outcome-same numbers ends t allowance a b c d (e ∙ sym (length-replicate {A = ℕ} 1024 0)) (g ∙ sym (length-replicate {A = ℕ} 65536 0)) in
+    let c : List ℕ = replicate answerRoom 0 in
+    let d : List ℕ = replicate certificateRoom 0 in
+    let o = outcome-same numbers ends t allowance a b c d (e ∙ sym (length-replicate {A = ℕ} answerRoom 0)) (g ∙ sym (length-replicate {A = ℕ} certificateRoom 0)) in
     rendered-same numbers ends t allowance a b c d f (query numbers ends t allowance a b .outcome) refl (sym o)
     ∙ ap (λ x. rendered x (query numbers ends t allowance c d .certificate)) o
-
--- the whole of a row, as a part of it
-pub part-whole : (k : ℕ) (r : List ℕ) → k ≡ length r → length (take (k - 0) (drop 0 r)) ≡ k
-part-whole k r e = let i : k - 0 ≡ k = omega arith in ap (λ x. length (take x r)) i ∙ length-take-le k r (omega arith)

@@ -6,12 +6,9 @@ use mathlib.Core.Option.{Option, none, some}
 use lib.Dec.{ltb, leb, eqb}
 use lib.ListN.{length, take}
 use Rattle.model.specs.Refusals.{over}
+use Rattle.hits_limits.specs.Limits.{mostBytes}
 use Rattle.text_read.specs.Pieces.{split}
 use Rattle.text_read.specs.Numbers.{number}
-
--- The program accepts at most 65,536 bytes.
-unfoldable pub mostBytes : ℕ
-mostBytes = 65536
 
 -- the numbers that words are, if each is one
 unfoldable pub before : Option ℕ → Option (List ℕ) → Option (List ℕ)
@@ -52,9 +49,9 @@ pub data Lines : Type 0 where
   runsAre : (runs : List (List ℕ)) → Lines
   faultAt : (line : ℕ) → Lines
 
-unfoldable pub withRun : List ℕ → Lines → Lines
-withRun run (runsAre runs) = runsAre (run ∷ runs)
-withRun run (faultAt line) = faultAt line
+unfoldable pub runBefore : List ℕ → Lines → Lines
+runBefore run (runsAre runs) = runsAre (run ∷ runs)
+runBefore run (faultAt line) = faultAt line
 
 -- How many runs and numbers there is room for.
 pub record Limits : Type 0 where
@@ -73,7 +70,7 @@ linesFrom limits i n (line ∷ next ∷ lines) =
       | some run ↦
           elim (leb (limits .runs) i || ltb (limits .numbers) (n + length run)) [
             | true ↦ faultAt (i + 2)
-            | false ↦ withRun run (linesFrom limits (suc i) (n + length run) (next ∷ lines))
+            | false ↦ runBefore run (linesFrom limits (suc i) (n + length run) (next ∷ lines))
           ]
     ]
 

@@ -12,8 +12,8 @@ use native.Mathlib.Numerals.{add-one}
 use native.Mathlib.Omega.{arith}
 use Rattle.model.proofs.Slices.{part-length}
 use Rattle.text_read.specs.Pieces.{split, until}
-use Rattle.hits_input.specs.Input.{runOf, Lines, runsAre, faultAt, withRun, linesFrom, row}
-use Rattle.hits_line.specs.Line.{countOf}
+use Rattle.hits_input.specs.Input.{runOf, Lines, runsAre, faultAt, runBefore, linesFrom, row}
+use Rattle.hits_run.specs.Line.{countOf}
 use Rattle.hits_lines.specs.Lines.{scanned, linesAt}
 use Rattle.hits_lines.specs.declared.Scan.the-variants.{Runs, Fault}
 use Rattle.text_read.proofs.Pieces.{pieces, pieces-in, pieces-out, pieces-next}
@@ -30,7 +30,7 @@ onLine runs room i n o rest =
       | some run ↦
           elim (leb runs i || ltb room (n + length run)) [
             | true ↦ faultAt (i + 2)
-            | false ↦ withRun run (linesFrom (record { runs = runs; numbers = room }) (suc i) (n + length run) rest)
+            | false ↦ runBefore run (linesFrom (record { runs = runs; numbers = room }) (suc i) (n + length run) rest)
           ]
     ]
 
@@ -88,8 +88,8 @@ module _ (runs room i n : ℕ) (rest : List (List ℕ)) where
       rw (lt-leb runs i h, lt-ltb room (n + length run) l, onLine)
 
   -- the runs and numbers with those of the lines from here on
-  scan-with : (run : List ℕ) (lines : Lines) → scanned i n (withRun run lines) ≡ scanned (i + 1) (n + length run) lines
-  unfolding scanned withRun row
+  scan-with : (run : List ℕ) (lines : Lines) → scanned i n (runBefore run lines) ≡ scanned (i + 1) (n + length run) lines
+  unfolding scanned runBefore row
   scan-with run (runsAre rs) =
       let a = length-append run (row rs) in
       let p : i + suc (length rs) ≡ i + 1 + length rs = omega arith in

@@ -14,10 +14,11 @@ use native.Mathlib.Numerals.{add-one}
 use native.Mathlib.Omega.{arith}
 use Rattle.model.proofs.Slices.{part-length}
 use Rattle.model.proofs.Tests.{both, eq-or-ne, or-false}
-use Rattle.hits_input.specs.Input.{mostBytes, before, numbersOf, runOf, Lines, runsAre, faultAt, withRun, linesFrom, row, endsFrom}
+use Rattle.hits_limits.specs.Limits.{mostBytes}
+use Rattle.hits_input.specs.Input.{before, numbersOf, runOf, Lines, runsAre, faultAt, runBefore, linesFrom, row, endsFrom}
 use Rattle.text_read.specs.Pieces.{split, until}
 use Rattle.text_read.specs.Numbers.{number}
-use Rattle.hits_line.specs.Line.{leading}
+use Rattle.hits_run.specs.Line.{leading}
 use Rattle.hits_lines.specs.Lines.{runsIn, linesAt, Readable, Stored}
 use Rattle.hits_lines.proofs.Lines.{linesHere, onLine, lines-start, lines-end, line-inside, line-unended, line-ended}
 use Rattle.text_read.proofs.Pieces.{pieces, split-few}
@@ -59,11 +60,11 @@ run-few (b ∷ line) e = let l = leading-all (split 32 (b ∷ line)) e .1 in let
 not-runs : {A : Type 0} {line : ℕ} {rs : List (List ℕ)} → faultAt line ≡ runsAre rs → A
 not-runs e = let z : _≡_ {A = ℕ} 0 1 = cc in absurd (omega arith)
 
-with-runs : (run : List ℕ) (lines : Lines) {rs : List (List ℕ)} → withRun run lines ≡ runsAre rs
+runs-before : (run : List ℕ) (lines : Lines) {rs : List (List ℕ)} → runBefore run lines ≡ runsAre rs
     → (lines ≡ runsAre (runsIn lines)) × (rs ≡ run ∷ runsIn lines)
-unfolding withRun runsIn
-with-runs run (runsAre rs) e = (refl, sym (ap runsIn e))
-with-runs run (faultAt line) e = not-runs e
+unfolding runBefore runsIn
+runs-before run (runsAre rs) e = (refl, sym (ap runsIn e))
+runs-before run (faultAt line) e = not-runs e
 
 -- the line's run, and the runs of the lines after it
 pub record Next (runs room i n : ℕ) (o : Option (List ℕ)) (rest : List (List ℕ)) (rs : List (List ℕ)) : Type 0 where
@@ -84,7 +85,7 @@ next-line runs room i n (some run) rest {rs} e =
     (λ (t : (leb runs i || ltb room (n + length run)) ≡ true). not-runs (rw (t, onLine) at e))
     (λ (t : (leb runs i || ltb room (n + length run)) ≡ false).
     let lines = linesFrom (record { runs = runs; numbers = room }) (suc i) (n + length run) rest in
-    let w = with-runs run lines (rw (t, onLine) at e) in
+    let w = runs-before run lines (rw (t, onLine) at e) in
     let f = or-false (leb runs i) (ltb room (n + length run)) t in
     record {
       run = run;

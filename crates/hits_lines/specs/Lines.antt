@@ -4,7 +4,8 @@ use mathlib.Core.List.{List, []}
 use mathlib.Core.Path.{_≡_}
 use lib.ListN.{length, drop}
 use lib.Seq.{sets}
-use Rattle.hits_input.specs.Input.{Lines, runsAre, faultAt, linesFrom, row, endsFrom, mostBytes}
+use Rattle.hits_input.specs.Input.{Lines, runsAre, faultAt, linesFrom, row, endsFrom}
+use Rattle.hits_limits.specs.Limits.{mostBytes}
 use Rattle.text_read.specs.Pieces.{split}
 use Rattle.hits_lines.specs.declared.Scan.{Scan}
 use Rattle.hits_lines.specs.declared.Scan.the-variants.{Runs, Fault}

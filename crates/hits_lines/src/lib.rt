@@ -2,9 +2,9 @@
 ghost use mathlib.Core.Path.{_≡_};
 ghost use Prim.Native.Nat.{_≤_};
 ghost use lib.ListN.{length};
-ghost use Rattle.hits_input.specs.Input.{mostBytes};
+ghost use Rattle.hits_limits.specs.Limits.{mostBytes};
 ghost use Rattle.hits_lines.specs.Lines.{scanned, Within, linesAt, Readable, Stored};
-use hits_line::Run;
+use hits_run::Run;
 
 // The further lines: how many runs and numbers they have, or the first at fault.
 pub enum Scan {
@@ -25,7 +25,7 @@ pub fn scan_lines(bytes: &[u8], start: usize, runs: usize, room: usize) -> Scan
         if end == bytes.len() {
             return Scan::Fault(i + 2);
         }
-        let Run::Numbers(more) = hits_line::count_run(&bytes[at..end]) else {
+        let Run::Numbers(more) = hits_run::count_run(&bytes[at..end]) else {
             return Scan::Fault(i + 2);
         };
         if runs <= i {
@@ -51,7 +51,7 @@ pub fn write_lines(bytes: &[u8], start: usize, numbers: &mut [u32], ends: &mut [
     let mut n: usize = 0;
     while at < bytes.len() {
         let end = at + text_read::first_of(&bytes[at..], 10);
-        n = hits_line::write_run(&bytes[at..end], numbers, n);
+        n = hits_run::write_run(&bytes[at..end], numbers, n);
         ends[i] = n as u32;
         i += 1;
         at = end + 1;

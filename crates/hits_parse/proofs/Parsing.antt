@@ -9,7 +9,8 @@ use mathlib.Core.Logic.{_≢_}
 use mathlib.Core.Path.{_≡_, refl, sym, ap, _∙_, subst⁻¹}
 use native.Mathlib.Omega.{arith}
 use Rattle.model.specs.Refusals.{over}
-use Rattle.hits_input.specs.Input.{mostBytes, heading, noHeading, headingOf, Lines, runsAre, faultAt, Limits, linesFrom, limited, row, endsFrom, question, refused, resultOf, parseLines, parse}
+use Rattle.hits_limits.specs.Limits.{mostBytes}
+use Rattle.hits_input.specs.Input.{heading, noHeading, headingOf, Lines, runsAre, faultAt, Limits, linesFrom, limited, row, endsFrom, question, refused, resultOf, parseLines, parse}
 use Rattle.text_read.specs.Pieces.{split, until}
 use Rattle.hits_lines.specs.Lines.{scanned, Within, within, runsIn, linesAt, Readable, Stored}
 use Rattle.hits_parse.specs.Parsed.{Returns}
@@ -47,7 +48,7 @@ over-sets : (xs l : List ℕ) → length xs ≤ length l → sets l 0 xs ≡ ove
 unfolding over
 over-sets xs l h = let z : 0 + length xs ≡ length xs = omega arith in sets-eq xs l 0 (omega arith) ∙ ap (λ x. xs ++ drop x l) z
 
-ends-length : (start : ℕ) (rs : List (List ℕ)) → length (endsFrom start rs) ≡ length rs
+pub ends-length : (start : ℕ) (rs : List (List ℕ)) → length (endsFrom start rs) ≡ length rs
 unfolding endsFrom
 ends-length start [] = refl
 ends-length start (run ∷ rs) = ap suc (ends-length (start + length run) rs)
@@ -138,10 +139,16 @@ pub within-runs : {runs room i n : ℕ} → Within runs room (Runs i n) → i �
 within-runs (within f g) = f
 
 module _ (input numbers ends : List ℕ) where
-  pub parse-long : 65536 < length input → parse input numbers ends ≡ parseLines true (split 10 (take (65536 - 0) input)) numbers ends
-  unfolding parse mostBytes
-  parse-long h = rw (lt-ltb 65536 (length input) h)
+  pub parse-long : (most : ℕ) → most ≡ mostBytes → most < length input
+      → parse input numbers ends ≡ parseLines true (split 10 (take (most - 0) input)) numbers ends
+  unfolding parse
+  parse-long most e h =
+      let k : mostBytes < length input = omega arith in
+      let z : mostBytes ≡ most - 0 = omega arith in
+      rw (lt-ltb mostBytes (length input) k) (ap (λ x. parseLines true (split 10 (take x input)) numbers ends) z)
 
-  pub parse-short : length input ≤ 65536 → parse input numbers ends ≡ parseLines false (split 10 input) numbers ends
-  unfolding parse mostBytes
-  parse-short h = rw (le-ltb 65536 (length input) h, take-all 65536 input h)
+  pub parse-short : (most : ℕ) → most ≡ mostBytes → length input ≤ most → parse input numbers ends ≡ parseLines false (split 10 input) numbers ends
+  unfolding parse
+  parse-short most e h =
+      let k : length input ≤ mostBytes = omega arith in
+      rw (le-ltb mostBytes (length input) k, take-all mostBytes input k)

@@ -2,10 +2,11 @@
 // a fault; only where there is none does a second pass store the runs.
 ghost use Prim.Native.Nat.{_≤_};
 ghost use lib.ListN.{length};
-ghost use Rattle.hits_input.specs.Input.{mostBytes, parseLines, parse};
+ghost use Rattle.hits_limits.specs.Limits.{mostBytes};
+ghost use Rattle.hits_input.specs.Input.{parseLines, parse};
 ghost use Rattle.text_read.specs.Pieces.{split};
 ghost use Rattle.hits_parse.specs.Parsed.{outcomeIs, Returns};
-use hits_line::First;
+use hits_heading::First;
 use hits_lines::Scan;
 
 // A question with how many runs and numbers it has, or the number of the first line that cannot be read.
@@ -19,7 +20,7 @@ pub enum Parsed {
     Faulty(usize),
 }
 
-// The first 65,536 bytes of an input, which may be longer.
+// An input, or the first bytes of a longer one, as many as the limit.
 fn parse_bytes(bytes: &[u8], longer: bool, numbers: &mut [u32], ends: &mut [u32]) -> Parsed
     requires { ⌜ length (now bytes) ≤ mostBytes ⌝ }
     ensures { λ r. ⌜ Returns (parseLines longer (split 10 (now (bytes .entry))) (now (numbers .entry)) (now (ends .entry))) (outcomeIs r) (now (numbers .exit)) (now (ends .exit)) ⌝ }
@@ -31,7 +32,7 @@ fn parse_bytes(bytes: &[u8], longer: bool, numbers: &mut [u32], ends: &mut [u32]
     let First::Pair {
         threshold,
         allowance,
-    } = hits_line::read_first(&bytes[0..end])
+    } = hits_heading::read_first(&bytes[0..end])
     else {
         return Parsed::Faulty(1);
     };
@@ -53,13 +54,14 @@ fn parse_bytes(bytes: &[u8], longer: bool, numbers: &mut [u32], ends: &mut [u32]
     }
 }
 
-// The input as a question, whose numbers and ends are then stored at the front of the two rows; their lengths are the limits (1,024 and 64 in the
-// program). A faulty input leaves both rows unchanged. Linear in the input.
+// The input as a question, whose numbers and ends are then stored at the front of the two rows; their lengths are the limits.
+// A faulty input leaves both rows unchanged. Linear in the input.
 pub fn parse(input: &[u8], numbers: &mut [u32], ends: &mut [u32]) -> Parsed
     ensures { λ r. ⌜ Returns (parse (now (input .entry)) (now (numbers .entry)) (now (ends .entry))) (outcomeIs r) (now (numbers .exit)) (now (ends .exit)) ⌝ }
 {
-    if 65536 < input.len() {
-        return parse_bytes(&input[0..65536], true, numbers, ends);
+    let most = hits_limits::most_bytes();
+    if most < input.len() {
+        return parse_bytes(&input[0..most], true, numbers, ends);
     }
     parse_bytes(input, false, numbers, ends)
 }

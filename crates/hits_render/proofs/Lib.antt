@@ -1,7 +1,4 @@
 pub mod Fitting
-pub mod Instances
-pub mod Parted
-pub mod Parts
 pub mod Printed
 pub mod Room
 pub mod Texts

@@ -15,12 +15,13 @@ use Rattle.model.specs.Certificate.{Part, encode, Covers, TruePart}
 use Rattle.model.specs.Compared.{wholeCertificate}
 use Rattle.model.specs.Demands.{Fits, partsIn, bytesIn, refusedBy, Certified}
 use Rattle.model.specs.Refusals.{Check, passed, refusal, firstChecks, accepted, refused, query}
-use Rattle.model.specs.Runs.{Run, pastBin, runs}
-use Rattle.hits_render.specs.Text.{partLines, doneLine, partsHeld, rendered}
-use Rattle.hits_render.proofs.Parts.{held-none, held-read}
+use Rattle.model.specs.Runs.{Run, pastBin, mostRuns, runs}
+use Rattle.hits_parts.specs.Parts.{partLines, partsHeld}
+use Rattle.hits_render.specs.Text.{doneLine, rendered}
+use Rattle.hits_parts.proofs.Parts.{held-none, held-read}
 
 -- the bytes of parts that cover the bins and are true hold those parts
-held-encode : {rs : List Run} {t b : ℕ} (ps : List Part) → length rs ≤ 64 → Covers b ps → ((p : Part) → List·Memᴰ p ps → TruePart rs t p)
+held-encode : {rs : List Run} {t b : ℕ} (ps : List Part) → length rs ≤ mostRuns → Covers b ps → ((p : Part) → List·Memᴰ p ps → TruePart rs t p)
     → partsHeld (encode ps) ≡ ps
 unfolding encode
 held-encode [] k c h = held-none
@@ -29,7 +30,7 @@ held-encode (p ∷ ps) k c h =
     ∙ ap (λ l. p ∷ l) (held-encode ps k (covers-rest c) (λ q m. h q (List·Memᴰ·tail m)))
 
 -- what a certified outcome prints
-certified-prints : (rs : List Run) (t : ℕ) (answers certificate : List ℕ) (a n b q : ℕ) → length rs ≤ 64
+certified-prints : (rs : List Run) (t : ℕ) (answers certificate : List ℕ) (a n b q : ℕ) → length rs ≤ mostRuns
     → Certified rs t (accepted a n b q) answers certificate
     → rendered (accepted a n b q) certificate ≡ partLines (wholeCertificate t rs) ++ doneLine a n q
 unfolding rendered bytesIn partsIn refusedBy

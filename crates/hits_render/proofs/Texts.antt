@@ -13,8 +13,10 @@ use Rattle.query.specs.Outcomes.{outcomeIs}
 use Rattle.query.specs.declared.Outcome as code
 use Rattle.query.specs.declared.Outcome.the-variants.{Refused}
 use Rattle.text_write.specs.Laying.{Lays}
-use Rattle.text_write.specs.Lines.{line}
-use Rattle.hits_render.specs.Text.{partLines, doneLine, refuseLine, partsHeld, rendered, Shows}
+use Rattle.text_lines.specs.Lines.{line}
+use Rattle.hits_limits.specs.Limits.{lineRoom}
+use Rattle.hits_parts.specs.Parts.{partLines, partsHeld}
+use Rattle.hits_render.specs.Text.{doneLine, refuseLine, rendered, Shows}
 use Rattle.hits_render.specs.declared.Rendered.{Rendered}
 use Rattle.hits_render.specs.declared.Rendered.the-variants.{Text}
 use Rattle.text_write.proofs.Laid.{lays-then}
@@ -44,12 +46,12 @@ refuse-laid number place i j g = rw (i, j) at g
 -- ---- room that is enough
 
 module _ {before after : List ℕ} {r : Rendered} where
-  pub refuse-whole : (number place : ℕ) → number < 2 ^ 8 → place < 2 ^ 64 → Shows (refuseLine number place) before after r → 64 ≤ length before
+  pub refuse-whole : (number place : ℕ) → number < 2 ^ 8 → place < 2 ^ 64 → Shows (refuseLine number place) before after r → lineRoom ≤ length before
       → r ≡ Text (length (refuseLine number place))
   refuse-whole number place h k s e = let z = refuse-room number place h k in shown-whole s (omega arith)
 
   pub accept-whole : (answers parts bytes probes : ℕ) (certificate : List ℕ) → Fits 256 certificate → answers < 2 ^ 64 → parts < 2 ^ 64 → probes < 2 ^ 32
-      → Shows (rendered (accepted answers parts bytes probes) certificate) before after r → 4 * length certificate + 64 ≤ length before
+      → Shows (rendered (accepted answers parts bytes probes) certificate) before after r → 4 * length certificate + lineRoom ≤ length before
       → r ≡ Text (length (rendered (accepted answers parts bytes probes) certificate))
   accept-whole answers parts bytes probes certificate f h i k s e =
       let z = text-room answers parts bytes probes certificate f h i k in
@@ -57,8 +59,8 @@ module _ {before after : List ℕ} {r : Rendered} where
 
   -- what a refused outcome prints
   pub refused-shows : (o : code.Outcome) (number place answers bytes probes : ℕ) (certificate : List ℕ) → o ≡ Refused number place answers bytes probes
-      → Shows (refuseLine number place) before after r × (64 ≤ length before → r ≡ Text (length (refuseLine number place)))
+      → Shows (refuseLine number place) before after r × (lineRoom ≤ length before → r ≡ Text (length (refuseLine number place)))
       → Shows (rendered (outcomeIs o) certificate) before after r
-      × (4 * length certificate + 64 ≤ length before → r ≡ Text (length (rendered (outcomeIs o) certificate)))
+      × (4 * length certificate + lineRoom ≤ length before → r ≡ Text (length (rendered (outcomeIs o) certificate)))
   unfolding rendered
   refused-shows o number place answers bytes probes certificate e s = rw e (s .0, λ h. s .1 (omega arith))

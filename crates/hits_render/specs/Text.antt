@@ -1,24 +1,15 @@
 -- Document 01, 'The program hits': the text that it prints for the outcome of a question and its certificate. Definitions only.
-use Prim.Native.Nat.{ℕ, zero, suc, _+_}
+use Prim.Native.Nat.{ℕ}
 use mathlib.Core.Bool.{true, false}
 use mathlib.Core.List.{List, [], _∷_, _++_}
 use mathlib.Core.Path.{_≡_}
 use lib.Dec.{leb}
 use lib.ListN.{length, take}
-use Rattle.model.specs.Certificate.{Part, answer, gap, unreadable, read, readField}
 use Rattle.model.specs.Refusals.{Outcome, accepted, refused, over}
 use Rattle.hits_render.specs.declared.Rendered.{Rendered}
 use Rattle.hits_render.specs.declared.Rendered.the-variants.{Text, Full}
-use Rattle.text_write.specs.Lines.{line}
-
--- `gap` first last mask, or `hit` value mask, for each part
-unfoldable pub partLine : Part → List ℕ
-partLine (gap first last named) = line (103 ∷ 97 ∷ 112 ∷ []) (first ∷ last ∷ named ∷ [])
-partLine (answer value named) = line (104 ∷ 105 ∷ 116 ∷ []) (value ∷ named ∷ [])
-
-unfoldable pub partLines : List Part → List ℕ
-partLines [] = []
-partLines (p ∷ ps) = partLine p ++ partLines ps
+use Rattle.text_lines.specs.Lines.{line}
+use Rattle.hits_parts.specs.Parts.{partLines, partsHeld}
 
 -- `done` answers parts probes
 unfoldable pub doneLine : ℕ → ℕ → ℕ → List ℕ
@@ -27,14 +18,6 @@ doneLine answers parts probes = line (100 ∷ 111 ∷ 110 ∷ 101 ∷ []) (answe
 -- `refuse` number place
 unfoldable pub refuseLine : ℕ → ℕ → List ℕ
 refuseLine number place = line (114 ∷ 101 ∷ 102 ∷ 117 ∷ 115 ∷ 101 ∷ []) (number ∷ place ∷ [])
-
--- The parts that some bytes hold: fields one after another, up to the first that cannot be read. (Each field has at least one byte.)
-unfoldable pub partsFrom : ℕ → List ℕ → List Part
-partsFrom zero bytes = []
-partsFrom (suc fuel) bytes = elim (readField bytes) [ unreadable n ↦ [] | read p rest ↦ p ∷ partsFrom fuel rest ]
-
-unfoldable pub partsHeld : List ℕ → List Part
-partsHeld bytes = partsFrom (length bytes) bytes
 
 -- An accepted question prints a line for each part of its certificate, which is the first bytes of the buffer, and the line `done`. A refused one
 -- prints only the line `refuse`.

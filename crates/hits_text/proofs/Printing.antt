@@ -1,5 +1,5 @@
 -- What stands in the program's buffers before is of no account: only their lengths matter. Assumes nothing.
-use Prim.Native.Nat.{ℕ, suc, _+_, _-_, _≤_}
+use Prim.Native.Nat.{ℕ, _-_, _≤_}
 use lib.Dec.{ltb}
 use lib.ListN.{length, take, drop, replicate, length-replicate, length-append}
 use lib.Seq.{take-append-seam}
@@ -10,7 +10,9 @@ use native.Mathlib.Omega.{arith}
 use Rattle.model.specs.Refusals.{over}
 use Rattle.model.specs.Runs.{runs}
 use Rattle.hits_parse.specs.Parsed.{Returns}
+use Rattle.hits_parse.proofs.Parsing.{ends-length}
 use Rattle.hits_input.specs.Input as text
+use Rattle.hits_limits.specs.Limits.{mostBytes, inputRuns, inputNumbers}
 use Rattle.hits_render.specs.Text.{refuseLine}
 use Rattle.hits_ask.specs.Ask.{textFor}
 use Rattle.hits_text.specs.Hits.{parsed, printed, hits}
@@ -27,11 +29,6 @@ pub record Same (p q : text.Result) : Type 0 where
 pub take-over : (n : ℕ) (written buffer : List ℕ) → n ≡ length written → take n (over written buffer) ≡ written
 unfolding over
 take-over n written buffer e = ap (λ x. take x (written ++ drop (length written) buffer)) e ∙ take-append-seam written (drop (length written) buffer)
-
-pub ends-length : (start : ℕ) (rs : List (List ℕ)) → length (text.endsFrom start rs) ≡ length rs
-unfolding text.endsFrom
-ends-length start [] = refl
-ends-length start (r ∷ rs) = ap suc (ends-length (start + length r) rs)
 
 pub refused-not : {A : Type 0} {p q t x n m : ℕ} → text.refused p q ≡ text.question t x n m → A
 refused-not e = let z : _≡_ {A = ℕ} 0 1 = cc in absurd (omega arith)
@@ -67,11 +64,11 @@ lines-same longer (l ∷ next ∷ ls) a b c d e f =
     (text.resultOf (text.headingOf l) (text.limited longer x) c d))
     k (result-same (text.headingOf l) (text.limited longer (text.linesFrom (record { runs = length b; numbers = length a }) 0 0 (next ∷ ls))) a b c d)
 
-pub parse-text : (input a b : List ℕ) → length a ≡ 1024 → length b ≡ 64 → Same (text.parse input a b) (parsed input)
+pub parse-text : (input a b : List ℕ) → length a ≡ inputNumbers → length b ≡ inputRuns → Same (text.parse input a b) (parsed input)
 unfolding text.parse parsed
 parse-text input a b e f =
-    lines-same (ltb text.mostBytes (length input)) (split 10 (take text.mostBytes input)) a b (replicate 1024 0) (replicate 64 0)
-    (e ∙ sym (length-replicate {A = ℕ} 1024 0)) (f ∙ sym (length-replicate {A = ℕ} 64 0))
+    lines-same (ltb mostBytes (length input)) (split 10 (take mostBytes input)) a b (replicate inputNumbers 0) (replicate inputRuns 0)
+    (e ∙ sym (length-replicate {A = ℕ} inputNumbers 0)) (f ∙ sym (length-replicate {A = ℕ} inputRuns 0))
 
 -- a question's numbers and ends stand in the rows
 result-fits : (h : text.Heading) (l : text.Lines) (a b : List ℕ) (t allowance n m : ℕ) → text.resultOf h l a b .outcome ≡ text.question t allowance n m
@@ -98,7 +95,7 @@ lines-fits longer (l ∷ next ∷ ls) a b t x n m e =
 parse-fits : (input a b : List ℕ) (t allowance n m : ℕ) → text.parse input a b .outcome ≡ text.question t allowance n m
     → (m ≤ length (text.parse input a b .numbers)) × (n ≤ length (text.parse input a b .ends))
 unfolding text.parse
-parse-fits input a b t x n m e = lines-fits (ltb text.mostBytes (length input)) (split 10 (take text.mostBytes input)) a b t x n m e
+parse-fits input a b t x n m e = lines-fits (ltb mostBytes (length input)) (split 10 (take mostBytes input)) a b t x n m e
 
 -- ---- what is printed
 
@@ -111,11 +108,11 @@ pub prints-question : (input : List ℕ) (t allowance n m : ℕ) → parsed inpu
 unfolding hits printed
 prints-question input t allowance n m e = rw (e, printed)
 
-pub refusal-text : (input a b a′ b′ : List ℕ) (line : ℕ) → length a ≡ 1024 → length b ≡ 64
+pub refusal-text : (input a b a′ b′ : List ℕ) (line : ℕ) → length a ≡ inputNumbers → length b ≡ inputRuns
     → Returns (text.parse input a b) (text.refused 12 line) a′ b′ → refuseLine 12 line ≡ hits input
 refusal-text input a b a′ b′ line e f r = sym (prints-refusal input 12 line (sym (parse-text input a b e f .outcome) ∙ sym (r .outcome-is)))
 
-pub question-text : (input a b a′ b′ : List ℕ) (t allowance n m : ℕ) → length a ≡ 1024 → length b ≡ 64
+pub question-text : (input a b a′ b′ : List ℕ) (t allowance n m : ℕ) → length a ≡ inputNumbers → length b ≡ inputRuns
     → Returns (text.parse input a b) (text.question t allowance n m) a′ b′
     → textFor (take (m - 0) (drop 0 a′)) (take (n - 0) (drop 0 b′)) t allowance ≡ hits input
 question-text input a b a′ b′ t allowance n m e f r =

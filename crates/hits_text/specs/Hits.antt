@@ -1,16 +1,15 @@
 -- Document 01, 'The program hits': what it prints for an input. Definitions only.
 use Prim.Native.Nat.{ℕ}
 use mathlib.Core.List.{List}
-use mathlib.Core.Logic.{_⊎_}
-use mathlib.Core.Path.{_≡_}
 use lib.ListN.{take, replicate}
 use Rattle.hits_input.specs.Input as text
+use Rattle.hits_limits.specs.Limits.{inputRuns, inputNumbers}
 use Rattle.hits_render.specs.Text.{refuseLine}
 use Rattle.hits_ask.specs.Ask.{textFor}
 
--- The input is refused, or is a question of at most 1,024 numbers in at most 64 runs.
+-- The input is refused, or is a question of at most so many numbers and runs as there is room for.
 unfoldable pub parsed : List ℕ → text.Result
-parsed input = text.parse input (replicate 1024 0) (replicate 64 0)
+parsed input = text.parse input (replicate inputNumbers 0) (replicate inputRuns 0)
 
 unfoldable pub printed : text.Result → List ℕ
 printed p =
@@ -21,7 +20,3 @@ printed p =
 
 unfoldable pub hits : List ℕ → List ℕ
 hits input = printed (parsed input)
-
--- The numbers of the refusals that can be printed: 12 of the input, and 1, 2, 4 and 7 of its question.
-unfoldable pub Printable : ℕ → Type 0
-Printable n = (n ≡ 1) ⊎ ((n ≡ 2) ⊎ ((n ≡ 4) ⊎ ((n ≡ 7) ⊎ (n ≡ 12))))

@@ -3,20 +3,14 @@ ghost use mathlib.Core.Path.{_≡_};
 ghost use Prim.Native.Nat.{_≤_};
 ghost use lib.ListN.{length};
 ghost use Rattle.hits_render.specs.Text.{Shows};
-ghost use Rattle.hits_ask.specs.Ask.{mostText};
+ghost use Rattle.hits_limits.specs.Limits.{inputRuns, inputNumbers, mostText};
 ghost use Rattle.hits_text.specs.Hits.{hits};
 use hits_parse::Parsed;
 use hits_render::Rendered;
 
-fn room_for_ends() -> [u32; 64]
-    ensures { λ r. ⌜ 64 ≡ length r ⌝ }
-{
-    [0; 64]
-}
-
 // The text for an input, whose question is stored in these rows.
 fn text_in(input: &[u8], numbers: &mut [u32], ends: &mut [u32], text: &mut [u8]) -> Rendered
-    requires { ⌜ (length (now numbers) ≡ 1024) × (length (now ends) ≡ 64) ⌝ }
+    requires { ⌜ (length (now numbers) ≡ inputNumbers) × (length (now ends) ≡ inputRuns) ⌝ }
     ensures shows { λ r. ⌜ Shows (hits (now (input .entry))) (now (text .entry)) (now (text .exit)) r ⌝ }
     ensures enough { λ r. ⌜ (mostText ≤ length (now (text .entry)) → r ≡ Rendered.Text (length (hits (now (input .entry))))) ⌝ }
 {
@@ -42,7 +36,7 @@ pub fn text_for(input: &[u8], text: &mut [u8]) -> Rendered
     ensures shows { λ r. ⌜ Shows (hits (now (input .entry))) (now (text .entry)) (now (text .exit)) r ⌝ }
     ensures enough { λ r. ⌜ (mostText ≤ length (now (text .entry)) → r ≡ Rendered.Text (length (hits (now (input .entry))))) ⌝ }
 {
-    let mut numbers = hits_ask::room_for_numbers();
-    let mut ends = room_for_ends();
-    text_in(input, &mut numbers[0..1024], &mut ends[0..64], text)
+    let mut numbers = hits_limits::room_for_numbers();
+    let mut ends = hits_limits::room_for_ends();
+    text_in(input, &mut numbers, &mut ends, text)
 }

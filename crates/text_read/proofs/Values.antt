@@ -12,11 +12,11 @@ use mathlib.Core.Path.{_≡_, refl}
 use native.Mathlib.Numerals.{add-one}
 use native.Mathlib.Omega.{arith}
 use Rattle.model.specs.Runs.{lastBin}
-use Rattle.text_read.specs.Numbers.{allDigits, digitsValue, number}
+use Rattle.text_read.specs.Numbers.{allDigits, decimalValue, number}
 
 -- the number whose first digits have the value n
 unfoldable pub numberFrom : ℕ → List ℕ → Option ℕ
-numberFrom n word = elim (allDigits word && leb (digitsValue n word) lastBin) [ true ↦ some (digitsValue n word) | false ↦ none ]
+numberFrom n word = elim (allDigits word && leb (decimalValue n word) lastBin) [ true ↦ some (decimalValue n word) | false ↦ none ]
 
 pub number-empty : (word : List ℕ) → length word ≡ 0 → number word ≡ none
 unfolding number
@@ -42,21 +42,21 @@ module _ (n : ℕ) (word : List ℕ) (i : ℕ) (h : i < length word) where
   above-digits k l = rw (drop-cons word i 0 h) (rw (le-leb 48 (getD word i 0) k, lt-leb (getD word i 0) 57 l, numberFrom))
 
   pub digit-on : 48 ≤ getD word i 0 → getD word i 0 ≤ 57 → numberFrom n (drop i word) ≡ numberFrom (n * 10 + (getD word i 0 - 48)) (drop (i + 1) word)
-  unfolding numberFrom allDigits digitsValue
+  unfolding numberFrom allDigits decimalValue
   digit-on k l = rw (drop-cons word i 0 h, add-one i) (rw (le-leb 48 (getD word i 0) k, le-leb (getD word i 0) 57 l, numberFrom))
 
-pub value-grows : (n : ℕ) (word : List ℕ) → n ≤ digitsValue n word
-unfolding digitsValue
+pub value-grows : (n : ℕ) (word : List ℕ) → n ≤ decimalValue n word
+unfolding decimalValue
 value-grows n [] = omega arith
 value-grows n (b ∷ word) = let h = value-grows (n * 10 + (b - 48)) word in omega arith
 
-pub too-large : (n : ℕ) (word : List ℕ) → 4294967295 < n → numberFrom n word ≡ none
-unfolding numberFrom lastBin
+pub too-large : (n : ℕ) (word : List ℕ) → lastBin < n → numberFrom n word ≡ none
+unfolding numberFrom
 too-large n word h =
     let g = value-grows n word in
-    let l : 4294967295 < digitsValue n word = omega arith in
-    rw (lt-leb (digitsValue n word) 4294967295 l, and-false-right (allDigits word), numberFrom)
+    let l : lastBin < decimalValue n word = omega arith in
+    rw (lt-leb (decimalValue n word) lastBin l, and-false-right (allDigits word), numberFrom)
 
-pub number-end : (n : ℕ) (word : List ℕ) (i : ℕ) → length word ≤ i → n ≤ 4294967295 → numberFrom n (drop i word) ≡ some n
-unfolding numberFrom allDigits digitsValue lastBin
-number-end n word i h l = rw (drop-of-length-le word h) (rw (le-leb n 4294967295 l, numberFrom))
+pub number-end : (n : ℕ) (word : List ℕ) (i : ℕ) → length word ≤ i → n ≤ lastBin → numberFrom n (drop i word) ≡ some n
+unfolding numberFrom allDigits decimalValue
+number-end n word i h l = rw (drop-of-length-le word h) (rw (le-leb n lastBin l, numberFrom))

@@ -18,11 +18,11 @@ allDigits [] = true
 allDigits (b ∷ word) = (leb 48 b && leb b 57) && allDigits word
 
 -- (n is the value of the digits before)
-unfoldable pub digitsValue : ℕ → List ℕ → ℕ
-digitsValue n [] = n
-digitsValue n (b ∷ word) = digitsValue (n * 10 + (b - 48)) word
+unfoldable pub decimalValue : ℕ → List ℕ → ℕ
+decimalValue n [] = n
+decimalValue n (b ∷ word) = decimalValue (n * 10 + (b - 48)) word
 
 unfoldable pub number : List ℕ → Option ℕ
 number [] = none
 number (b ∷ word) =
-    let n = digitsValue 0 (b ∷ word) in elim (allDigits (b ∷ word) && leb n lastBin) [ true ↦ some n | false ↦ none ]
+    let n = decimalValue 0 (b ∷ word) in elim (allDigits (b ∷ word) && leb n lastBin) [ true ↦ some n | false ↦ none ]

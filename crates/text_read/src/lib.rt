@@ -40,7 +40,7 @@ pub fn read_word(word: &[u8]) -> Word
             return Word::NoNumber;
         }
         value = value * 10 + arith::u64_of_u8(b - 48);
-        if 4294967295 < value {
+        if limits::PAST_BIN <= value {
             return Word::NoNumber;
         }
         i += 1;

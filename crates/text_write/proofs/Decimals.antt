@@ -7,7 +7,7 @@ use mathlib.Core.Logic.{⊎-elim}
 use mathlib.Core.Path.{_≡_, sym, ap, _∙_}
 use native.Mathlib.Omega.{arith}
 use Rattle.model.proofs.Tests.{lt-or-le}
-use Rattle.text_write.specs.Lines.{decimalIn, decimal}
+use Rattle.text_write.specs.Decimal.{decimalIn, decimal}
 
 in-small : (n x : ℕ) → x < 10 → decimalIn (suc n) x ≡ (48 + x) ∷ []
 unfolding decimalIn

@@ -1,3 +1,4 @@
 pub mod Decimals
+pub mod Instances
 pub mod Laid
-pub mod Lines
+pub mod Steps

@@ -1,12 +1,12 @@
-// Text as bytes, written: numbers in decimal, and lines of a word and numbers, laid into a lent buffer one after another.
+// Text as bytes, written: words and numbers in decimal, laid into a lent buffer one after another.
 ghost use mathlib.Core.List.{_∷_, []};
 ghost use Prim.Native.Nat.{_+_, _≤_};
 ghost use lib.ListN.{length};
 ghost use Rattle.text_write.specs.Laying.{Lays};
-ghost use Rattle.text_write.specs.Lines.{decimal, numbersAfter, line};
+ghost use Rattle.text_write.specs.Decimal.{decimal};
 
 // Lays one byte. A place past the buffer's length says that an earlier byte did not fit.
-fn put(text: &mut [u8], at: usize, byte: u8) -> usize
+pub fn put(text: &mut [u8], at: usize, byte: u8) -> usize
     ensures { λ r. ⌜ Lays (byte ∷ []) (now (text .entry)) at (now (text .exit)) r ⌝ }
 {
     if at < text.len() {
@@ -17,7 +17,7 @@ fn put(text: &mut [u8], at: usize, byte: u8) -> usize
 }
 
 // Lays a number in decimal.
-fn put_number(text: &mut [u8], at: usize, x: u64) -> usize
+pub fn put_number(text: &mut [u8], at: usize, x: u64) -> usize
     ensures { λ r. ⌜ Lays (decimal x) (now (text .entry)) at (now (text .exit)) r ⌝ }
 {
     if x < 10 {
@@ -28,7 +28,7 @@ fn put_number(text: &mut [u8], at: usize, x: u64) -> usize
 }
 
 // Lays a word.
-fn put_word(text: &mut [u8], at: usize, word: &[u8]) -> usize
+pub fn put_word(text: &mut [u8], at: usize, word: &[u8]) -> usize
     requires { ⌜ at ≤ length (now text) + 1 ⌝ }
     ensures { λ r. ⌜ Lays (now (word .entry)) (now (text .entry)) at (now (text .exit)) r ⌝ }
 {
@@ -39,40 +39,4 @@ fn put_word(text: &mut [u8], at: usize, word: &[u8]) -> usize
         i += 1;
     }
     next
-}
-
-// Lays a space and a number.
-fn put_after(text: &mut [u8], at: usize, x: u64) -> usize
-    ensures { λ r. ⌜ Lays (32 ∷ decimal x) (now (text .entry)) at (now (text .exit)) r ⌝ }
-{
-    let next = put(text, at, 32);
-    put_number(text, next, x)
-}
-
-// Lays the last two numbers of a line and its end.
-fn put_last(text: &mut [u8], at: usize, x: u64, y: u64) -> usize
-    ensures { λ r. ⌜ Lays (numbersAfter (x ∷ y ∷ [])) (now (text .entry)) at (now (text .exit)) r ⌝ }
-{
-    let second = put_after(text, at, x);
-    let end = put_after(text, second, y);
-    put(text, end, 10)
-}
-
-// Lays a line of a word and two numbers.
-pub fn put_two(text: &mut [u8], at: usize, word: &[u8], x: u64, y: u64) -> usize
-    requires { ⌜ at ≤ length (now text) + 1 ⌝ }
-    ensures { λ r. ⌜ Lays (line (now (word .entry)) (x ∷ y ∷ [])) (now (text .entry)) at (now (text .exit)) r ⌝ }
-{
-    let next = put_word(text, at, word);
-    put_last(text, next, x, y)
-}
-
-// Lays a line of a word and three numbers.
-pub fn put_three(text: &mut [u8], at: usize, word: &[u8], x: u64, y: u64, z: u64) -> usize
-    requires { ⌜ at ≤ length (now text) + 1 ⌝ }
-    ensures { λ r. ⌜ Lays (line (now (word .entry)) (x ∷ y ∷ z ∷ [])) (now (text .entry)) at (now (text .exit)) r ⌝ }
-{
-    let next = put_word(text, at, word);
-    let second = put_after(text, next, x);
-    put_last(text, second, y, z)
 }

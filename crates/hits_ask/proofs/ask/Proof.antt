@@ -1,42 +1,29 @@
 -- `ask` lends the program's buffers to the question. Assumes nothing.
-use Prim.Native.Nat.{_+_, _*_, _≤_, _<_}
-use lib.ListN.{length, take, drop}
-use mathlib.Core.Path.{_≡_, refl, sym, ap, _∙_, subst}
+use lib.ListN.{length}
+use mathlib.Core.Path.{ap, _∙_, subst}
 use native.Mathlib.Omega.{arith}
 use Rattle.model.specs.Demands.{Fits}
 use Rattle.model.specs.Runs.{pastBin}
 use Rattle.model.proofs.FirstChecks.{fits}
 use Rattle.hits_render.specs.Text.{Shows}
 use Rattle.hits_render.specs.declared.Rendered.the-variants.{Text}
-use Rattle.hits_ask.specs.Ask.{mostText}
-use Rattle.hits_ask.proofs.Asking.{ask-text, part-whole}
+use Rattle.hits_limits.specs.Limits.{mostText}
+use Rattle.hits_ask.proofs.Asking.{ask-text}
 use borrow.Author.Needs.{needs}
 use Rattle.hits_ask.proofs.ask.Statement.{statement}
 use Rattle.hits_ask.proofs.ask.Tie as tie
 
-room-for-numbers-requires : tie.Need-room-for-numbers-requires
-room-for-numbers-requires c κs = search needs
+room-for-answers-requires : tie.Need-room-for-answers-requires
+room-for-answers-requires c κs = search needs
 
-room-for-bytes-requires : tie.Need-room-for-bytes-requires
-room-for-bytes-requires c κs = search needs
+room-for-certificate-requires : tie.Need-room-for-certificate-requires
+room-for-certificate-requires c κs = search needs
 
-sub-ask-in : tie.Need-sub-ask-in
-sub-ask-in c = search needs
+slice-aggregate-ask-in : tie.Need-slice-aggregate-ask-in
+slice-aggregate-ask-in c = search needs
 
-part-answers-start : tie.Need-part-answers-start
-part-answers-start c = search needs
-
-part-answers-end : tie.Need-part-answers-end
-part-answers-end c = search needs
-
-sub-ask-in-2 : tie.Need-sub-ask-in-2
-sub-ask-in-2 c = search needs
-
-part-certificate-start : tie.Need-part-certificate-start
-part-certificate-start c = search needs
-
-part-certificate-end : tie.Need-part-certificate-end
-part-certificate-end c = search needs
+slice-aggregate-ask-in-2 : tie.Need-slice-aggregate-ask-in-2
+slice-aggregate-ask-in-2 c = search needs
 
 ask-in-requires : tie.Need-ask-in-requires
 ask-in-requires c κs = search needs
@@ -56,8 +43,8 @@ returns c =
     let n = b .before in
     let f = n .before .before .before in
     let a = f .before .args in
-    let k = part-whole 1024 (n .room-for-numbers .result) (n .room-for-numbers .ensures) in
-    let l = part-whole 65536 (b .room-for-bytes .result) (b .room-for-bytes .ensures) in
+    let k = n .room-for-answers .ensures in
+    let l = b .room-for-certificate .ensures in
     let e = ask-text (a .numbers .now) (a .ends .now) (a .threshold) (a .allowance) _ _ (fits-bins f) k l in (
       subst (λ x. Shows x (a .text .now) (u .ask-in .last .1 .1 .1 .1 .1 .1 .0) (u .ask-in .result)) e (u .ask-in .ensures .0),
       λ h. u .ask-in .ensures .1 (omega arith) ∙ ap (λ x. Text (length x)) e,
@@ -67,14 +54,10 @@ pub ask-spec : {M : Type 1} → statement M
 ask-spec =
     tie.close
     (tie.spec
-    room-for-numbers-requires
-    room-for-bytes-requires
-    sub-ask-in
-    part-answers-start
-    part-answers-end
-    sub-ask-in-2
-    part-certificate-start
-    part-certificate-end
+    room-for-answers-requires
+    room-for-certificate-requires
+    slice-aggregate-ask-in
+    slice-aggregate-ask-in-2
     ask-in-requires
     same-length
     returns)

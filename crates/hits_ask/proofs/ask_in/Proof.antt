@@ -1,7 +1,6 @@
 -- `ask_in` asks the question and prints what it comes to. Assumes nothing.
-use Prim.Native.Nat.{_+_, _*_, _≤_}
 use lib.ListN.{length}
-use mathlib.Core.Path.{_≡_, refl, sym, ap, _∙_, subst}
+use mathlib.Core.Path.{_≡_, ap, _∙_, subst}
 use native.Mathlib.Omega.{arith}
 use Rattle.model.specs.Refusals.{query}
 use Rattle.query.specs.Outcomes.{outcomeIs}

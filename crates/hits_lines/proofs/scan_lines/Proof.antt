@@ -5,8 +5,8 @@ use borrow.Author.Needs.{needs}
 use lib.ListN.{length}
 use mathlib.Core.Path.{sym, ap, _∙_}
 use native.Mathlib.Omega.{arith}
-use Rattle.hits_input.specs.Input.{mostBytes}
-use Rattle.hits_line.specs.Line.{countIs}
+use Rattle.hits_limits.specs.Limits.{mostBytes}
+use Rattle.hits_run.specs.Line.{countIs}
 use Rattle.hits_lines.specs.Lines.{within, faulted}
 use Rattle.hits_lines.proofs.Lines.{Scanning, scanning-start, scanning-end, line-inside, found-unended, found-form, found-runs, found-room, scanning-on}
 use Rattle.text_read.proofs.Pieces.{piece-ends}

@@ -3,7 +3,7 @@ use Prim.Native.Nat.{_+_, _-_, _<_}
 use borrow.Author.Needs.{needs}
 use lib.ListN.{length}
 use native.Mathlib.Omega.{arith}
-use Rattle.hits_input.specs.Input.{mostBytes}
+use Rattle.hits_limits.specs.Limits.{mostBytes}
 use Rattle.text_read.proofs.Pieces.{piece-ends}
 use Rattle.hits_lines.proofs.Writing.{Writing, writing-start, writing-end, writing-inside, writing-room, writing-more, writing-few, writing-on}
 use Rattle.hits_lines.proofs.write_lines.Statement.{statement}

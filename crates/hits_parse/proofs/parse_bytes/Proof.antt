@@ -1,11 +1,11 @@
--- `parse_bytes` parses at most 65,536 bytes. Assumes nothing.
+-- `parse_bytes` parses at most as many bytes as the limit. Assumes nothing.
 use Prim.Native.Nat.{_+_, _-_}
 use borrow.Author.Needs.{needs}
 use lib.ListN.{length, take}
 use mathlib.Core.Path.{_≡_, sym, ap, _∙_, subst}
 use native.Mathlib.Omega.{arith}
 use Rattle.hits_input.specs.Input.{heading, headingOf}
-use Rattle.hits_line.specs.Line.{headingIs}
+use Rattle.hits_heading.specs.Heading.{headingIs}
 use Rattle.hits_lines.specs.Lines.{scanned, Within, linesAt}
 use Rattle.hits_lines.specs.declared.Scan.the-variants.{Runs}
 use Rattle.hits_parse.proofs.Parsing.{no-end, line-inside, no-heading, line-fault, too-long, readable, stored, within-runs}

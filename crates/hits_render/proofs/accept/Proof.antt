@@ -1,4 +1,4 @@
--- `render::accept` lays the lines of the parts, and then the line `done`. Assumes nothing.
+-- `accept` lays the lines of the parts, and then the line `done`. Assumes nothing.
 use borrow.Author.Needs.{needs}
 use Rattle.model.proofs.FirstChecks.{fits}
 use Rattle.hits_render.proofs.Fitting.{shows-laid}

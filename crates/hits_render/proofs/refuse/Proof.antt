@@ -1,4 +1,4 @@
--- `render::refuse` lays its line from the front on. Assumes nothing.
+-- `refuse` lays its line from the front on. Assumes nothing.
 use borrow.Author.Needs.{needs}
 use Rattle.hits_render.proofs.Fitting.{shows-laid}
 use Rattle.hits_render.proofs.Texts.{refuse-laid, refuse-whole}

@@ -1,4 +1,4 @@
--- `render::render` is the text of an accepted question or of a refused one. Assumes nothing.
+-- `render` is the text of an accepted question or of a refused one. Assumes nothing.
 use borrow.Author.Needs.{needs}
 use Rattle.hits_render.proofs.Texts.{refused-shows}
 use Rattle.hits_render.proofs.render.Statement.{statement}

@@ -1,4 +1,4 @@
--- `render::shown`: the text fits or it does not. Assumes nothing.
+-- `shown`: the text fits or it does not. Assumes nothing.
 use mathlib.Core.Path.{sym}
 use Rattle.hits_render.proofs.Fitting.{fitting-text, fitting-full}
 use Rattle.hits_render.proofs.shown.Statement.{statement}

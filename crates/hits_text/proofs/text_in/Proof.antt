@@ -1,13 +1,12 @@
 -- `text_in` reads the question and prints what it comes to, or prints the line at fault. Assumes nothing.
-use Prim.Native.Nat.{_+_, _*_, _≤_, _<_}
-use lib.ListN.{length, take, drop}
-use mathlib.Core.Path.{_≡_, refl, sym, ap, _∙_, subst}
+use lib.ListN.{length}
+use mathlib.Core.Path.{ap, _∙_, subst}
 use native.Mathlib.Omega.{arith}
 use Rattle.hits_parse.specs.Parsed.{outcomeIs, Returns}
 use Rattle.hits_input.specs.Input as text
 use Rattle.hits_render.specs.Text.{Shows}
 use Rattle.hits_render.specs.declared.Rendered.the-variants.{Text}
-use Rattle.hits_ask.specs.Ask.{mostText}
+use Rattle.hits_limits.specs.Limits.{mostText}
 use Rattle.hits_text.proofs.Printing.{refusal-text, question-text, question-fits}
 use borrow.Author.Needs.{needs}
 use Rattle.hits_text.proofs.text_in.Statement.{statement}

@@ -1,11 +1,11 @@
--- `render::put_number` lays the digits of a tenth of the number, and then the last digit. The measure is the number. Assumes nothing.
+-- `put_number` lays the digits of a tenth of the number, and then the last digit. The measure is the number. Assumes nothing.
 use Prim.Native.Nat.{ℕ, _<_}
 use borrow.Author.Needs.{needs}
 use borrow.Fn.Kinds.{In}
 use borrow.Fn.PlainCycle.{Measures, is, falls, and}
 use mathlib.Core.Path.{_∙_}
 use native.Mathlib.Omega.{arith}
-use Rattle.text_write.proofs.Lines.{digit-laid, more-laid}
+use Rattle.text_write.proofs.Steps.{digit-laid, more-laid}
 use Rattle.text_write.proofs.put_number.Reads as put-number
 use Rattle.text_write.proofs.put_number.Kinds as put-number-kinds
 use Rattle.text_write.proofs.+put_number.Lts-put_number as put-number-lts

@@ -1,4 +1,4 @@
--- `render::put` lays one byte: it fits or it does not. Assumes nothing.
+-- `put` lays one byte: it fits or it does not. Assumes nothing.
 use borrow.Author.Needs.{needs}
 use Rattle.text_write.proofs.Laid.{lays-here, lays-out}
 use Rattle.text_write.proofs.put.Statement.{statement}

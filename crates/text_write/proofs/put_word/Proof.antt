@@ -1,4 +1,4 @@
--- `render::put_word` lays the bytes of a word one after another. The invariant: the bytes passed are laid. The measure is what is left of the word.
+-- `put_word` lays the bytes of a word one after another. The invariant: the bytes passed are laid. The measure is what is left of the word.
 -- Assumes nothing.
 use Prim.Native.Nat.{_-_, _≤_}
 use borrow.Author.Needs.{needs}
@@ -6,7 +6,7 @@ use lib.ListN.{length, take}
 use native.Mathlib.Omega.{arith}
 use Rattle.text_write.specs.Laying.{Lays}
 use Rattle.text_write.proofs.Laid.{lays-none, lays-length}
-use Rattle.text_write.proofs.Lines.{word-on, word-end}
+use Rattle.text_write.proofs.Steps.{word-on, word-end}
 use Rattle.text_write.proofs.put_word.Statement.{statement}
 use Rattle.text_write.proofs.put_word.Tie as tie
 

@@ -1,0 +1,29 @@
+-- Document 01's listing, and the same question with too small an allowance, by computation. Assumes nothing.
+use mathlib.Core.Path.{_≡_, refl}
+use Rattle.model.specs.Certificate.{firstOf, lastOf, answersOf, bytesOf, numberOf, field, encodePart, encode, readBody, readField}
+use Rattle.model.specs.Compared.{wholeWalk, partsOf, cost, probe, probesOf}
+use Rattle.model.specs.Refusals.{_then_, refuseIf, refuseAt, fallsFrom, lastEnd, unrisenIn, firstChecks, met, after, cut, cutWalk, over, outcomeOf, query}
+use Rattle.model.specs.Runs.{firstBin, lastBin, pastBin, runsFrom, runs, unrisenAfter, unrisen, total, one, count, mask}
+use Rattle.model.specs.Walk.{headOf, head, leastHead, tthHead, doubling, halving, seek, searchIn, searches, searched, movedOn, settle, round, walk}
+use Rattle.text_read.specs.Pieces.{onFirst, split}
+use Rattle.text_read.specs.Numbers.{allDigits, decimalValue, number}
+use Rattle.text_write.specs.Decimal.{decimalIn, decimal}
+use Rattle.text_lines.specs.Lines.{numbersAfter, line}
+use Rattle.hits_input.specs.Input.{before, numbersOf, pair, twoWords, headingOf, runOf, runBefore, linesFrom, limited, row, endsFrom, resultOf, parseLines, parse}
+use Rattle.hits_limits.specs.Limits.{mostBytes, inputRuns, inputNumbers, answerRoom, certificateRoom}
+use Rattle.hits_input.specs.Instances.{bytes}
+use Rattle.hits_parts.specs.Parts.{partLine, partLines, partsFrom, partsHeld}
+use Rattle.hits_render.specs.Text.{doneLine, refuseLine, rendered}
+use Rattle.hits_ask.specs.Ask.{shown, asked, textFor}
+use Rattle.hits_text.specs.Hits.{parsed, printed, hits}
+use Rattle.hits_printed.specs.Instances.{listingInput, listingText, refusedInput, refusedText}
+
+pub listing-printed : (hits listingInput ≡ listingText) × (hits refusedInput ≡ refusedText)
+unfolding listingInput listingText refusedInput refusedText bytes hits printed parsed textFor asked shown
+    mostBytes inputRuns inputNumbers answerRoom certificateRoom onFirst split allDigits decimalValue number before numbersOf pair twoWords headingOf runOf runBefore linesFrom limited row endsFrom resultOf parseLines parse
+    firstOf lastOf answersOf bytesOf numberOf field encodePart encode readBody readField wholeWalk partsOf cost probe probesOf
+    _then_ refuseIf refuseAt fallsFrom lastEnd unrisenIn firstChecks met after cut cutWalk over outcomeOf query
+    firstBin lastBin pastBin runsFrom runs unrisenAfter unrisen total one count mask
+    headOf head leastHead tthHead doubling halving seek searchIn searches searched movedOn settle round walk
+    decimalIn decimal numbersAfter line partLine partLines doneLine refuseLine partsFrom partsHeld rendered
+listing-printed = (refl, refl)
