@@ -6,7 +6,7 @@ use lib.ListN.{length}
 use Rattle.model.specs.Refusals.{passed, firstChecks}
 use Rattle.model.specs.Runs.{Run, pastBin}
 use Rattle.model.specs.Walk.{walk}
-use Rattle.query.specs.declared.End.{End}
+use Rattle.walk_rounds.specs.declared.End.{End}
 use Rattle.walk_write.specs.declared.State.{State}
 use Rattle.walk_write.specs.Writes.{goesOn, endsWith}
 

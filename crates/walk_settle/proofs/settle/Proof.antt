@@ -5,11 +5,11 @@ use mathlib.Core.Path.{_≡_, refl, sym, ap, _∙_, subst}
 use native.Mathlib.Omega.{arith}
 use Rattle.walk_keys.specs.Row.{belowCount}
 use Rattle.walk_write.specs.Writes.{Answers}
-use Rattle.walk_round.proofs.Passing.{front-asks}
-use Rattle.walk_round.proofs.Settling.{no-answer, answer-stops, stands-after, answer-passes}
+use Rattle.walk_settle.proofs.Passing.{front-asks}
+use Rattle.walk_settle.proofs.Settling.{no-answer, answer-stops, stands-after, answer-passes}
 use borrow.Author.Needs.{needs}
-use Rattle.walk_round.proofs.settle.Statement.{statement}
-use Rattle.walk_round.proofs.settle.Tie as tie
+use Rattle.walk_settle.proofs.settle.Statement.{statement}
+use Rattle.walk_settle.proofs.settle.Tie as tie
 
 u64-of-u32-requires : tie.Need-u64-of-u32-requires
 u64-of-u32-requires c κs = search needs

@@ -2,10 +2,10 @@
 use native.Mathlib.Omega.{arith}
 use Prim.Native.Nat.{_+_}
 use Rattle.walk_state.specs.Moves.{StepReady}
-use Rattle.walk_round.proofs.Passing.{step-ready, passed-on, passed-last}
+use Rattle.walk_settle.proofs.Passing.{step-ready, passed-on, passed-last}
 use borrow.Author.Needs.{needs}
-use Rattle.walk_round.proofs.pass.Statement.{statement}
-use Rattle.walk_round.proofs.pass.Tie as tie
+use Rattle.walk_settle.proofs.pass.Statement.{statement}
+use Rattle.walk_settle.proofs.pass.Tie as tie
 
 returns : tie.Need-returns
 returns c =

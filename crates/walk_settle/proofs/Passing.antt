@@ -21,7 +21,7 @@ use Rattle.model.proofs.Walking.{past-last, map-same, map-mem}
 use Rattle.walk_keys.proofs.Row.{ordered-drop, below-le}
 use Rattle.walk_keys.specs.Row.{sumOf, belowCount, labelSum, Labels}
 use Rattle.walk_write.specs.Writes.{countsOf}
-use Rattle.walk_round.specs.Turns.{Stands, AtFloor, Passes}
+use Rattle.walk_settle.specs.Turns.{Stands, AtFloor, Passes}
 use Rattle.walk_write.specs.declared.State.{State}
 use Rattle.walk_write.specs.declared.Turn.the-variants.{On, Done}
 use Rattle.walk_write.proofs.Rows.{row-labels, row-sum, front-names, rest-same}

@@ -38,12 +38,6 @@ Goes es numbers ends t w answers certificate positions′ keys′ answers′ cer
     (0 < x) × (w′ .left ≤ w .left)
     × ((allowance n : ℕ) → w .left ≤ allowance → goesOn allowance w answers certificate (es n) ≡ endsWith x allowance w′ answers′ certificate′)
 
--- a round that goes on raises the floor
-abbrev pub Raises : ℕ → Turn → Type 0
-Raises floor (On w′) = floor < w′ .floor
-Raises floor (Done w′) = Unit
-Raises floor (Stopped x w′) = Unit
-
 -- after the searches for the floor it stays where it is no answer, and is raised otherwise
 abbrev pub Settles : List Run → ℕ → ℕ → Turn → Type 0
 Settles rs t v (On w′) = ((w′ .floor ≡ v) × (equal v rs < t)) ⊎ (v < w′ .floor)
@@ -64,9 +58,3 @@ Passes numbers ends positions t w positions′ keys′ (On w′) =
     × ((answers certificate : List ℕ) → Fitted answers certificate w → Fitted answers certificate w′)
 Passes numbers ends positions t w positions′ keys′ (Done w′) = (w .floor ≡ lastBin) × (w′ ≡ w)
 Passes numbers ends positions t w positions′ keys′ (Stopped x w′) = ⊥
-
--- v is the t-th smallest head, and runs enough have one
-pub record Advances (numbers ends positions : List ℕ) (t v : ℕ) : Type 0 where
-  pub bin : v < pastBin
-  pub left : t ≤ below pastBin (runsAt 0 numbers positions ends)
-  pub tth : tthHead t (runsAt 0 numbers positions ends) ≡ v

@@ -20,13 +20,14 @@ use Rattle.walk_keys.specs.Row.{belowCount, labelSum}
 use Rattle.walk_progress.specs.Progress.{onward, ended, withProbes}
 use Rattle.walk_progress.proofs.Progress.{onward-quiet, onward-spent, spentCounts}
 use Rattle.walk_write.specs.Writes.{countsOf, goesOn, endsWith, Fitted, Writes, gapEvents}
-use Rattle.walk_round.specs.Turns.{Stands, Goes, Raises, Settles, Advances}
+use Rattle.walk_settle.specs.Turns.{Stands, Goes, Settles}
+use Rattle.walk_advance.specs.Advances.{Raises, Advances}
 use Rattle.walk_write.specs.declared.State.{State}
 use Rattle.walk_write.specs.declared.Turn.{Turn}
 use Rattle.walk_write.specs.declared.Turn.the-variants.{On, Done, Stopped}
 use Rattle.walk_write.specs.declared.Wrote.the-variants as wrote′
-use Rattle.walk_round.proofs.Passing.{labels, number, few-runs, taken-out, heads-from}
-use Rattle.walk_round.proofs.Rounds.{gapBefore, gap-mask, round-is, quiet-searches}
+use Rattle.walk_settle.proofs.Passing.{labels, number, few-runs, taken-out, heads-from}
+use Rattle.walk_advance.proofs.Rounds.{gapBefore, gap-mask, round-is, quiet-searches}
 use Rattle.walk_write.proofs.Rows.{front-mask, front-names}
 use Rattle.walk_state.specs.Moves.{SearchReady}
 use Rattle.walk_seek.specs.Searched.{SearchedRuns}

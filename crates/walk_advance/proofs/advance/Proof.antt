@@ -6,15 +6,15 @@ use native.Mathlib.Omega.{arith}
 use Rattle.walk_keys.specs.Row.{belowCount}
 use Rattle.walk_write.specs.Writes.{Writes, gapEvents}
 use Rattle.walk_write.specs.declared.Wrote.the-variants.{On}
-use Rattle.walk_round.proofs.Advancing.{search-ready, named-small, gap-stops, searches-stop, stands-there, then-settles}
-use Rattle.walk_round.proofs.Passing.{front-asks}
+use Rattle.walk_advance.proofs.Advancing.{search-ready, named-small, gap-stops, searches-stop, stands-there, then-settles}
+use Rattle.walk_settle.proofs.Passing.{front-asks}
 use Rattle.walk_state.specs.Moves.{SearchReady}
 use Rattle.walk_seek.specs.Searched.{SearchedRuns}
 use Rattle.walk_state.specs.State.{runsAt}
 use Rattle.walk_seek.specs.declared.Moved.the-variants as moved
 use borrow.Author.Needs.{needs}
-use Rattle.walk_round.proofs.advance.Statement.{statement}
-use Rattle.walk_round.proofs.advance.Tie as tie
+use Rattle.walk_advance.proofs.advance.Statement.{statement}
+use Rattle.walk_advance.proofs.advance.Tie as tie
 
 u64-of-u32-requires : tie.Need-u64-of-u32-requires
 u64-of-u32-requires c κs = search needs

@@ -7,8 +7,9 @@ use native.Mathlib.Omega.{arith}
 use Rattle.model.specs.Runs.{Run}
 use Rattle.model.specs.Walk.{round, walk}
 use Rattle.walk_write.specs.Writes.{goesOn, endsWith, Fitted}
-use Rattle.walk_round.specs.Turns.{Stands, Goes, Raises}
-use Rattle.query.specs.Ends.{Finishes}
+use Rattle.walk_settle.specs.Turns.{Stands, Goes}
+use Rattle.walk_advance.specs.Advances.{Raises}
+use Rattle.walk_rounds.specs.Ends.{Finishes}
 use Rattle.walk_write.specs.declared.State.{State}
 use Rattle.walk_write.specs.declared.Turn.the-variants.{On}
 use Rattle.walk_state.specs.State.{runsAt}

@@ -4,14 +4,15 @@ use lib.ListN.{length}
 use mathlib.Core.Path.{_≡_, refl, _∙_, subst}
 use native.Mathlib.Omega.{arith}
 use Rattle.model.specs.Walk.{round, walk}
-use Rattle.walk_round.specs.Turns.{Goes, Raises}
+use Rattle.walk_settle.specs.Turns.{Goes}
+use Rattle.walk_advance.specs.Advances.{Raises}
 use Rattle.walk_write.specs.declared.Turn.the-variants.{On}
 use Rattle.walk_state.proofs.Moving.{past-is}
-use Rattle.query.proofs.Finishing.{Made, made-none, made-more, made-all}
+use Rattle.walk_rounds.proofs.Finishing.{Made, made-none, made-more, made-all}
 use Rattle.walk_state.specs.State.{runsAt}
 use borrow.Author.Needs.{needs}
-use Rattle.query.proofs.all_rounds.Statement.{statement}
-use Rattle.query.proofs.all_rounds.Tie as tie
+use Rattle.walk_rounds.proofs.all_rounds.Statement.{statement}
+use Rattle.walk_rounds.proofs.all_rounds.Tie as tie
 
 abbrev Inv-loop : tie.InvT-loop
 Inv-loop numbers ends threshold positions₀ keys₀ answers₀ certificate₀ x₀ positions keys answers certificate x =

@@ -48,11 +48,6 @@ gap-mask rs l v =
 
 -- ---- rounds
 
-pub round-ends : (next : ℕ → List Run → List Event) (t f : ℕ) (rs : List Run) → below pastBin rs < t
-    → round next t f rs ≡ wrote (gap f lastBin (mask (λ r. leb pastBin (head r)) rs)) ∷ []
-unfolding round below
-round-ends next t f rs h = rw (lt-ltb (count (λ r. ltb (head r) pastBin) rs) t h, round)
-
 -- the gap before v, where there is one
 unfoldable pub gapBefore : ℕ → ℕ → List Run → List Event
 gapBefore f v rs = elim (ltb f v) [ true ↦ wrote (gap f (v - 1) (mask (λ r. leb v (head r)) rs)) ∷ [] | false ↦ [] ]
@@ -63,20 +58,6 @@ unfolding round below gapBefore
 round-is next t f v rs h e =
     rw (le-ltb (count (λ r. ltb (head r) pastBin) rs) t h, round)
     (ap (λ x. gapBefore f x rs ++ (searches x rs ++ settle next t x (map (searched x) rs))) e)
-
-pub settle-passes : (next : ℕ → List Run → List Event) (t v : ℕ) (rs : List Run) → equal v rs < t → settle next t v rs ≡ next v rs
-unfolding settle equal
-settle-passes next t v rs h = rw (lt-leb t (count (λ r. eqb (head r) v) rs) h, settle)
-
-pub settle-answers : (next : ℕ → List Run → List Event) (t v : ℕ) (rs : List Run) → t ≤ equal v rs → v ≢ lastBin
-    → settle next t v rs ≡ wrote (answer v (mask (λ r. eqb (head r) v) rs)) ∷ next (suc v) (map (movedOn v) rs)
-unfolding settle equal
-settle-answers next t v rs h n = rw (le-leb t (count (λ r. eqb (head r) v) rs) h, ne-eqb v lastBin n, settle)
-
-pub settle-ends : (next : ℕ → List Run → List Event) (t v : ℕ) (rs : List Run) → t ≤ equal v rs → v ≡ lastBin
-    → settle next t v rs ≡ wrote (answer v (mask (λ r. eqb (head r) v) rs)) ∷ []
-unfolding settle equal
-settle-ends next t v rs h n = rw (le-leb t (count (λ r. eqb (head r) v) rs) h, eq-eqb v lastBin n, settle)
 
 -- ---- searches write nothing
 
