@@ -27,7 +27,7 @@ use Rattle.walk_write.specs.declared.Turn.{Turn}
 use Rattle.walk_write.specs.declared.Turn.the-variants.{On, Done, Stopped}
 use Rattle.walk_write.specs.declared.Wrote.the-variants as wrote′
 use Rattle.walk_settle.proofs.Passing.{labels, number, few-runs, taken-out, heads-from}
-use Rattle.walk_advance.proofs.Rounds.{gapBefore, gap-mask, round-is, quiet-searches}
+use Rattle.walk_progress.proofs.Rounds.{gapBefore, gap-mask, round-is, quiet-searches}
 use Rattle.walk_write.proofs.Rows.{front-mask, front-names}
 use Rattle.walk_state.specs.Moves.{SearchReady}
 use Rattle.walk_seek.specs.Searched.{SearchedRuns}

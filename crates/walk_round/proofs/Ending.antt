@@ -1,14 +1,13 @@
 -- A round as the code takes it: the last gap where too few runs have a head, and the t-th key otherwise. Assumes nothing.
 use Prim.Native.Nat.{ℕ, zero, suc, _+_, _-_, _*_, _^_, _/_, _≤_, _<_}
-use borrow.Author.Tests.{lt-ltb}
 use lib.Dec.{ltb, leb}
 use lib.ListN.{length, getD, drop, length-drop}
 use mathlib.Core.List.{List, [], _∷_, List·Memᴰ}
 use mathlib.Core.Path.{_≡_, refl, sym, ap, _∙_, subst}
 use native.Mathlib.Omega.{arith}
 use Rattle.model.specs.Certificate.{gap}
-use Rattle.model.specs.Runs.{Run, lastBin, pastBin, count, mask}
-use Rattle.model.specs.Walk.{Event, wrote, head, round, walk}
+use Rattle.model.specs.Runs.{Run, lastBin, pastBin, mask}
+use Rattle.model.specs.Walk.{wrote, head, round, walk}
 use Rattle.model.specs.Rows.{below}
 use Rattle.model.proofs.Masks.{mask-only}
 use Rattle.walk_keys.specs.Row.{labelSum, nthHead}
@@ -22,15 +21,10 @@ use Rattle.walk_write.specs.declared.Turn.{Turn}
 use Rattle.walk_write.specs.declared.Turn.the-variants.{On, Done, Stopped}
 use Rattle.walk_advance.proofs.Advancing.{heads-small}
 use Rattle.walk_settle.proofs.Passing.{labels, number, few-runs}
-use Rattle.walk_advance.proofs.Rounds.{gap-mask}
+use Rattle.walk_progress.proofs.Rounds.{gap-mask, round-ends}
 use Rattle.walk_write.proofs.Rows.{row-labels, row-bins, row-length, row-mask, tth-key}
 use Rattle.walk_state.proofs.Moving.{past-is}
 use Rattle.walk_state.specs.State.{runsAt}
-
-pub round-ends : (next : ℕ → List Run → List Event) (t f : ℕ) (rs : List Run) → below pastBin rs < t
-    → round next t f rs ≡ wrote (gap f lastBin (mask (λ r. leb pastBin (head r)) rs)) ∷ []
-unfolding round below
-round-ends next t f rs h = rw (lt-ltb (count (λ r. ltb (head r) pastBin) rs) t h, round)
 
 module _ (numbers ends positions keys A B : List ℕ) (t : ℕ) (w : State) (s : Stands numbers ends positions keys t w) (fits : Fitted A B w) where
   abbrev rs : List Run

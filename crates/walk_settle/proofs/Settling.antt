@@ -1,6 +1,5 @@
 -- After the searches: what the question comes to where the floor is no answer, where a buffer is full, and where it is an answer. Assumes nothing.
 use Prim.Native.Nat.{ℕ, zero, suc, _+_, _-_, _*_, _^_, _≤_, _<_}
-use borrow.Author.Tests.{le-leb, lt-leb, eq-eqb, ne-eqb}
 use lib.Dec.{ltb, eqb}
 use lib.ListN.{length, drop, take}
 use mathlib.Core.List.{List, [], _∷_, map, List·Memᴰ}
@@ -8,8 +7,8 @@ use mathlib.Core.Logic.{⊎-elim, inl, inr, _≢_}
 use mathlib.Core.Path.{_≡_, refl, sym, ap, _∙_, subst}
 use native.Mathlib.Omega.{arith}
 use Rattle.model.specs.Certificate.{answer}
-use Rattle.model.specs.Runs.{Run, lastBin, count, mask}
-use Rattle.model.specs.Walk.{Event, wrote, head, movedOn, settle, walk}
+use Rattle.model.specs.Runs.{Run, lastBin, mask}
+use Rattle.model.specs.Walk.{wrote, head, movedOn, settle, walk}
 use Rattle.model.specs.Rows.{Rise, equal}
 use Rattle.model.proofs.Tests.{eq-or-ne}
 use Rattle.walk_keys.specs.Row.{belowCount, labelSum}
@@ -22,25 +21,8 @@ use Rattle.walk_write.specs.declared.Turn.the-variants.{On, Done, Stopped}
 use Rattle.walk_settle.proofs.Passing.{labels, few-runs, heads-from, floor-mask, floor-count}
 use Rattle.walk_write.proofs.Rows.{front-mask, front-count}
 use Rattle.walk_progress.specs.Progress.{onward}
+use Rattle.walk_progress.proofs.Rounds.{settle-passes, settle-answers, settle-ends}
 use Rattle.walk_state.specs.State.{runsAt, Holds}
-
--- ---- the definition by cases
-
-pub settle-passes : (next : ℕ → List Run → List Event) (t v : ℕ) (rs : List Run) → equal v rs < t → settle next t v rs ≡ next v rs
-unfolding settle equal
-settle-passes next t v rs h = rw (lt-leb t (count (λ r. eqb (head r) v) rs) h, settle)
-
-pub settle-answers : (next : ℕ → List Run → List Event) (t v : ℕ) (rs : List Run) → t ≤ equal v rs → v ≢ lastBin
-    → settle next t v rs ≡ wrote (answer v (mask (λ r. eqb (head r) v) rs)) ∷ next (suc v) (map (movedOn v) rs)
-unfolding settle equal
-settle-answers next t v rs h n = rw (le-leb t (count (λ r. eqb (head r) v) rs) h, ne-eqb v lastBin n, settle)
-
-pub settle-ends : (next : ℕ → List Run → List Event) (t v : ℕ) (rs : List Run) → t ≤ equal v rs → v ≡ lastBin
-    → settle next t v rs ≡ wrote (answer v (mask (λ r. eqb (head r) v) rs)) ∷ []
-unfolding settle equal
-settle-ends next t v rs h n = rw (le-leb t (count (λ r. eqb (head r) v) rs) h, eq-eqb v lastBin n, settle)
-
--- ---- the code
 
 -- a state with the same floor and start stands where the other does
 pub stands-same : (numbers ends positions keys : List ℕ) (t : ℕ) (w x : State) → x .floor ≡ w .floor → x .start ≡ w .start

@@ -48,7 +48,7 @@ key-below r u h =
     (λ (q : u ≤ head r). le-ltb (head r * 256 + r .label) (u * 256) (omega arith) ∙ sym (le-ltb (head r) u q))
     (lt-or-le (head r) u)
 
-pub one-true : one true ≡ 1
+one-true : one true ≡ 1
 unfolding one
 one-true = refl
 

@@ -17,12 +17,11 @@ use Rattle.model.specs.Rows.{below, equal}
 use Rattle.model.proofs.Masks.{Labelled, every, mask-all}
 use Rattle.model.proofs.Tests.{lt-or-le}
 use Rattle.model.proofs.Truth.{not-below}
-use Rattle.walk_write.proofs.Rows.{one-true}
 use Rattle.walk_progress.proofs.Progress.{Quiet, quiet-nil, quiet-sought, quiet-doubled, quiet-halved}
 
 -- ---- masks
 
-one-not : (b : Bool) → one b + one (not b) ≡ 1
+one-not : (b : Bool) → one b + one (not b) ≡ one true
 unfolding one
 one-not true = refl
 one-not false = refl
@@ -35,7 +34,7 @@ mask-split p q rs h =
     (λ r m.
     let e = one-not (p r) in
     let f = ap one (h r) in
-    let k : one (p r) + one (q r) ≡ one true = (let w = one-true in omega arith) in
+    let k : one (p r) + one (q r) ≡ one true = omega arith in
     omega (arith, ap (λ x. x * 2 ^ r .label) k))
 
 -- the mask of the runs whose head is not below v: all but those whose head is
@@ -48,6 +47,11 @@ gap-mask rs l v =
 
 -- ---- rounds
 
+pub round-ends : (next : ℕ → List Run → List Event) (t f : ℕ) (rs : List Run) → below pastBin rs < t
+    → round next t f rs ≡ wrote (gap f lastBin (mask (λ r. leb pastBin (head r)) rs)) ∷ []
+unfolding round below
+round-ends next t f rs h = rw (lt-ltb (count (λ r. ltb (head r) pastBin) rs) t h, round)
+
 -- the gap before v, where there is one
 unfoldable pub gapBefore : ℕ → ℕ → List Run → List Event
 gapBefore f v rs = elim (ltb f v) [ true ↦ wrote (gap f (v - 1) (mask (λ r. leb v (head r)) rs)) ∷ [] | false ↦ [] ]
@@ -58,6 +62,20 @@ unfolding round below gapBefore
 round-is next t f v rs h e =
     rw (le-ltb (count (λ r. ltb (head r) pastBin) rs) t h, round)
     (ap (λ x. gapBefore f x rs ++ (searches x rs ++ settle next t x (map (searched x) rs))) e)
+
+pub settle-passes : (next : ℕ → List Run → List Event) (t v : ℕ) (rs : List Run) → equal v rs < t → settle next t v rs ≡ next v rs
+unfolding settle equal
+settle-passes next t v rs h = rw (lt-leb t (count (λ r. eqb (head r) v) rs) h, settle)
+
+pub settle-answers : (next : ℕ → List Run → List Event) (t v : ℕ) (rs : List Run) → t ≤ equal v rs → v ≢ lastBin
+    → settle next t v rs ≡ wrote (answer v (mask (λ r. eqb (head r) v) rs)) ∷ next (suc v) (map (movedOn v) rs)
+unfolding settle equal
+settle-answers next t v rs h n = rw (le-leb t (count (λ r. eqb (head r) v) rs) h, ne-eqb v lastBin n, settle)
+
+pub settle-ends : (next : ℕ → List Run → List Event) (t v : ℕ) (rs : List Run) → t ≤ equal v rs → v ≡ lastBin
+    → settle next t v rs ≡ wrote (answer v (mask (λ r. eqb (head r) v) rs)) ∷ []
+unfolding settle equal
+settle-ends next t v rs h n = rw (le-leb t (count (λ r. eqb (head r) v) rs) h, eq-eqb v lastBin n, settle)
 
 -- ---- searches write nothing
 
