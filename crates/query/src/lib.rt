@@ -62,8 +62,8 @@ fn answer(
     requires { ⌜ firstChecks (now numbers) (now ends) threshold ≡ passed ⌝ }
     ensures { λ r. ⌜ Returns (query (now (numbers .entry)) (now (ends .entry)) threshold allowance (now (answers .entry)) (now (certificate .entry))) (outcomeIs r) (now (answers .exit)) (now (certificate .exit)) ⌝ }
 {
-    let mut positions = [0u32; 64];
-    let mut keys = [0u64; 64];
+    let mut positions = [0u32; limits::MOST_RUNS];
+    let mut keys = [0u64; limits::MOST_RUNS];
     let k = ends.len();
     let end = walk_rounds::whole_walk(
         numbers,

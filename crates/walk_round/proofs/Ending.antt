@@ -10,7 +10,7 @@ use Rattle.model.specs.Runs.{Run, lastBin, pastBin, mask}
 use Rattle.model.specs.Walk.{wrote, head, round, walk}
 use Rattle.model.specs.Rows.{below}
 use Rattle.model.proofs.Masks.{mask-only}
-use Rattle.walk_keys.specs.Row.{labelSum, nthHead}
+use Rattle.walk_keys.specs.Row.{noKey, labelSum, nthHead}
 use Rattle.walk_keys.proofs.Row.{member-at}
 use Rattle.walk_progress.proofs.Progress.{onward-end}
 use Rattle.walk_write.specs.Writes.{countsOf, goesOn, endsWith, Fitted, LastReady, LastGap}
@@ -50,6 +50,7 @@ module _ (numbers ends positions keys A B : List ℕ) (t : ℕ) (w : State) (s :
       row-bins rs (labels numbers ends positions keys (w .start) (s .few) (s .holds)) (few-runs numbers ends positions keys (w .start) (s .few) (s .holds)) row (s .holds .order)
 
   pub last-ready : LastReady ends keys B w
+  unfolding noKey
   last-ready =
       let m = mask-only (λ r. ltb (head r) pastBin) rs (labels numbers ends positions keys (w .start) (s .few) (s .holds)) in
       let e = row-named in

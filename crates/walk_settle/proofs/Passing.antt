@@ -10,7 +10,7 @@ use mathlib.Core.List.{List, [], _∷_, map, List·Memᴰ}
 use mathlib.Core.Logic.{⊎-elim, _≢_}
 use mathlib.Core.Path.{_≡_, refl, sym, ap, _∙_, subst}
 use native.Mathlib.Omega.{arith}
-use Rattle.model.specs.Runs.{Run, lastBin, pastBin, total, mask, names}
+use Rattle.model.specs.Runs.{Run, lastBin, pastBin, total, mask, names, mostRuns, maskBits}
 use Rattle.model.specs.Walk.{head, headOf, movedOn}
 use Rattle.model.proofs.Count.{total-eq, count-eq}
 use Rattle.model.specs.Rows.{Rise, below, equal, Ordered}
@@ -30,7 +30,7 @@ use Rattle.walk_state.specs.Moves.{stepNamed, StepReady}
 use Rattle.walk_state.specs.State.{runsAt, weigh, notNamed, Holds, Lacks}
 
 -- what holds of the runs that the rows hold
-module _ (numbers ends positions keys : List ℕ) (start : ℕ) (few : length ends ≤ 64)
+module _ (numbers ends positions keys : List ℕ) (start : ℕ) (few : length ends ≤ mostRuns)
     (h : Holds numbers ends positions keys start (runsAt 0 numbers positions ends)) where
   abbrev rs : List Run
   rs = runsAt 0 numbers positions ends
@@ -41,10 +41,10 @@ module _ (numbers ends positions keys : List ℕ) (start : ℕ) (few : length en
   pub number : length rs ≡ length ends
   number = runs-at-length 0 numbers positions ends (h .inside .lengths)
 
-  pub few-runs : length rs ≤ 64
+  pub few-runs : length rs ≤ mostRuns
   few-runs = let n = number in omega arith
 
-  pub front-asks : (start ≤ length keys) × Labels (drop start keys) × (labelSum (drop start keys) < 2 ^ 64)
+  pub front-asks : (start ≤ length keys) × Labels (drop start keys) × (labelSum (drop start keys) < 2 ^ maskBits)
   front-asks = (h .starts, row-labels rs labels few-runs (drop start keys) (h .order), row-sum rs labels few-runs (drop start keys) (h .order))
 
   -- a front taken out

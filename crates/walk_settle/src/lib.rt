@@ -21,7 +21,7 @@ fn pass(
     requires { ⌜ Stands (now numbers) (now ends) (now positions) (now keys) threshold w × AtFloor (now numbers) (now ends) (now positions) (now keys) w number named ⌝ }
     ensures { λ r. ⌜ Passes (now (numbers .entry)) (now (ends .entry)) (now (positions .entry)) threshold w (now (positions .exit)) (now (keys .exit)) r ⌝ }
 {
-    if w.floor == 4294967295 {
+    if w.floor == limits::LAST_BIN {
         return Turn::Done(w);
     }
     let start = walk_step::step_runs(

@@ -11,7 +11,7 @@ use mathlib.Core.Logic.{⊎-elim, _≢_}
 use mathlib.Core.Path.{_≡_, refl, sym, ap, ap₂, _∙_, subst}
 use native.Mathlib.Nat.{zero-div, zero-mod}
 use native.Mathlib.Omega.{arith}
-use Rattle.model.specs.Runs.{Run, pastBin, total, bit, names, slice}
+use Rattle.model.specs.Runs.{Run, pastBin, total, bit, names, slice, mostRuns}
 use Rattle.model.specs.Walk.{head, headOf, seek, searchIn, searches, searched}
 use Rattle.model.specs.Compared.{cost, probe, probesOf}
 use Rattle.model.proofs.Bounds.{search-cost, search-none}
@@ -104,7 +104,7 @@ getD-map f (r ∷ rs) zero h = refl
 getD-map f (r ∷ rs) (suc j) h = getD-map f rs j (omega arith)
 
 module _ (numbers ends positions : List ℕ) (rest run : ℕ) (rs : List Run) (m : Run → Run) (labels : Labelled 0 rs) (number : length rs ≡ length ends)
-    (few : length ends ≤ 64) (p : Placed numbers ends rs m rest positions) (named : bit rest run ≡ 1) where
+    (few : length ends ≤ mostRuns) (p : Placed numbers ends rs m rest positions) (named : bit rest run ≡ 1) where
   index : run < length ends
   index = below-only rest (length ends) run (p .only) named
 
