@@ -1,4 +1,7 @@
 // The runs whose head is below v searched for v, in rising run number, and their keys put back.
+ghost use mathlib.Core.Path.{_≡_};
+ghost use Prim.Native.Nat.{_<_};
+ghost use lib.ListN.{length, getD};
 ghost use Rattle.walk_state.specs.State.{runsAt};
 ghost use Rattle.walk_state.specs.Moves.{Placeable, Searchable, SearchReady};
 ghost use Rattle.walk_seek.specs.Searched.{SearchedRun, SearchedEach, SearchedRuns};
@@ -16,6 +19,25 @@ pub enum Probed {
     NoneLeft,
 }
 
+// The places in `numbers` that a search goes through.
+pub struct Part {
+    pub from: usize,
+    pub to: usize,
+}
+
+// A search of a run begins at the run's position and ends at its end.
+fn part_of(ends: &[u32], positions: &[u32], i: usize) -> Part
+    requires { ⌜ (i < length (now ends)) × (i < length (now positions)) ⌝ }
+    ensures { λ r. ⌜ (r .from ≡ getD (now (positions .entry)) i 0) × (r .to ≡ getD (now (ends .entry)) i 0) ⌝ }
+{
+    let from = arith::usize_of_u32(positions[i]);
+    let to = arith::usize_of_u32(ends[i]);
+    Part {
+        from: from,
+        to: to,
+    }
+}
+
 // Searches run `run` for v and moves it there.
 fn search_run(
     numbers: &[u32],
@@ -29,8 +51,9 @@ fn search_run(
     ensures { λ r. ⌜ SearchedRun (now (numbers .entry)) (now (ends .entry)) (now (positions .entry)) run v left (now (positions .exit)) r ⌝ }
 {
     let i = arith::usize_of_u32(run);
-    let p = arith::usize_of_u32(positions[i]);
-    let e = arith::usize_of_u32(ends[i]);
+    let part = part_of(ends, positions, i);
+    let p = part.from;
+    let e = part.to;
     let Sought::Found {
         place,
         doublings,

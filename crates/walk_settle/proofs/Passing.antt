@@ -69,10 +69,6 @@ module _ (numbers ends positions keys : List ℕ) (start : ℕ) (few : length en
         only = subst (λ x. named < 2 ^ x) number (subst (λ x. x < 2 ^ length rs) (sym f) (mask-only (λ r. ltb (head r) u) rs labels));
       }
 
-pub last-bin : lastBin ≡ 4294967295
-unfolding lastBin
-last-bin = refl
-
 -- ---- at the floor
 
 -- where every head is at least v, those not above v are v
@@ -140,7 +136,7 @@ module _ (numbers ends positions keys : List ℕ) (t : ℕ) (w : State) (n named
         heads = λ r m q. let e = eqb-true (head r) (w .floor) (sym (names-equal r m) ∙ q) in omega arith;
       }
 
-  pub passed-on : (positions′ keys′ : List ℕ) (start : ℕ) → w .floor ≢ 4294967295
+  pub passed-on : (positions′ keys′ : List ℕ) (start : ℕ) → w .floor ≢ lastBin
       → Holds numbers ends positions′ keys′ start (map (stepNamed named) runs′)
       → Passes numbers ends positions t w positions′ keys′
       (On (record { floor = w .floor + 1; start = start; answers = w .answers; parts = w .parts; bytes = w .bytes; left = w .left }))
@@ -148,7 +144,6 @@ module _ (numbers ends positions keys : List ℕ) (t : ℕ) (w : State) (n named
   passed-on positions′ keys′ start q h =
       let b = s .bin in
       let l = past-last in
-      let m = last-bin in
       let e : w .floor + 1 ≡ suc (w .floor) = omega arith in
       let i : runsAt 0 numbers positions′ ends ≡ map (movedOn (w .floor)) runs′ =
       h .runs-are ∙ map-same (stepNamed named) (movedOn (w .floor)) runs′ (λ r k. step-is (w .floor) named r (names-equal r k)) in
@@ -171,5 +166,5 @@ module _ (numbers ends positions keys : List ℕ) (t : ℕ) (w : State) (n named
         λ A B f. record { answered = f .answered; written = f .written; parts = f .parts },
       )
 
-  pub passed-last : w .floor ≡ 4294967295 → (positions′ keys′ : List ℕ) → Passes numbers ends positions t w positions′ keys′ (Done w)
-  passed-last q positions′ keys′ = (q ∙ sym last-bin, refl)
+  pub passed-last : w .floor ≡ lastBin → (positions′ keys′ : List ℕ) → Passes numbers ends positions t w positions′ keys′ (Done w)
+  passed-last q positions′ keys′ = (q, refl)

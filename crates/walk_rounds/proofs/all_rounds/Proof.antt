@@ -3,11 +3,11 @@ use Prim.Native.Nat.{_-_}
 use lib.ListN.{length}
 use mathlib.Core.Path.{_≡_, refl, _∙_, subst}
 use native.Mathlib.Omega.{arith}
+use Rattle.model.specs.Runs.{pastBin}
 use Rattle.model.specs.Walk.{round, walk}
 use Rattle.walk_settle.specs.Turns.{Goes}
 use Rattle.walk_advance.specs.Advances.{Raises}
 use Rattle.walk_write.specs.declared.Turn.the-variants.{On}
-use Rattle.walk_state.proofs.Moving.{past-is}
 use Rattle.walk_rounds.proofs.Finishing.{Made, made-none, made-more, made-all}
 use Rattle.walk_state.specs.State.{runsAt}
 use borrow.Author.Needs.{needs}
@@ -21,7 +21,7 @@ Inv-loop numbers ends threshold positions₀ keys₀ answers₀ certificate₀ x
 
 abbrev μ-loop : tie.MeasureT-loop
 μ-loop numbers ends threshold positions₀ keys₀ answers₀ certificate₀ x₀ positions keys answers certificate x =
-    4294967296 - x .floor
+    pastBin - x .floor
 
 loop-holds : tie.Need-loop-holds Inv-loop μ-loop
 loop-holds c =
@@ -65,7 +65,6 @@ loop-less c =
     let g = goes-on (c .before) in
     let r = g .1 in
     let b = g .0 .0 .bin in
-    let e = past-is in
     omega arith
 
 loop-again : tie.Need-loop-again Inv-loop μ-loop

@@ -1,6 +1,7 @@
 -- `pass` ends at the last bin, or moves the runs that hold the floor on by one. Assumes nothing.
 use native.Mathlib.Omega.{arith}
 use Prim.Native.Nat.{_+_}
+use Rattle.model.specs.Runs.{lastBin}
 use Rattle.walk_state.specs.Moves.{StepReady}
 use Rattle.walk_settle.proofs.Passing.{step-ready, passed-on, passed-last}
 use borrow.Author.Needs.{needs}
@@ -8,6 +9,7 @@ use Rattle.walk_settle.proofs.pass.Statement.{statement}
 use Rattle.walk_settle.proofs.pass.Tie as tie
 
 returns : tie.Need-returns
+unfolding lastBin
 returns c =
     let s = c .before .before .before .before .before .before in
     let a = s .args in
@@ -41,6 +43,7 @@ same-length-2 : tie.Need-same-length-2
 same-length-2 c = search needs
 
 returns-2 : tie.Need-returns-2
+unfolding lastBin
 returns-2 c =
     let u = c .before .before .before .before .before in
     let e = u .before .before .before .before in
