@@ -50,7 +50,8 @@ fn outcome_of(end: End, allowance: u32) -> Outcome
     }
 }
 
-// A question that passes the first checks. It needs no memory but two rows of 64 numbers.
+// A question that passes the first checks. Nothing is allocated: its positions and its keys are two rows with a place for each run, and two more such rows
+// are in use while the row of keys is made anew.
 fn answer(
     numbers: &[u32],
     ends: &[u32],

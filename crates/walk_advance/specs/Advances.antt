@@ -6,7 +6,6 @@ use Rattle.model.specs.Rows.{below}
 use Rattle.model.specs.Runs.{pastBin}
 use Rattle.model.specs.Walk.{tthHead}
 use Rattle.walk_state.specs.State.{runsAt}
-use Rattle.walk_write.specs.declared.State.{State}
 use Rattle.walk_write.specs.declared.Turn.{Turn}
 use Rattle.walk_write.specs.declared.Turn.the-variants.{On, Done, Stopped}
 

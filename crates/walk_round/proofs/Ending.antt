@@ -1,9 +1,9 @@
 -- A round as the code takes it: the last gap where too few runs have a head, and the t-th key otherwise. Assumes nothing.
-use Prim.Native.Nat.{ℕ, zero, suc, _+_, _-_, _*_, _^_, _/_, _≤_, _<_}
-use lib.Dec.{ltb, leb}
+use Prim.Native.Nat.{ℕ, _-_, _^_, _/_, _≤_, _<_}
+use lib.Dec.{ltb}
 use lib.ListN.{length, getD, drop, length-drop}
 use mathlib.Core.List.{List, [], _∷_, List·Memᴰ}
-use mathlib.Core.Path.{_≡_, refl, sym, ap, _∙_, subst}
+use mathlib.Core.Path.{_≡_, sym, ap, _∙_, subst}
 use native.Mathlib.Omega.{arith}
 use Rattle.model.specs.Certificate.{gap}
 use Rattle.model.specs.Runs.{Run, lastBin, pastBin, mask}

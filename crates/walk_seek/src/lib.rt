@@ -32,10 +32,7 @@ fn part_of(ends: &[u32], positions: &[u32], i: usize) -> Part
 {
     let from = arith::usize_of_u32(positions[i]);
     let to = arith::usize_of_u32(ends[i]);
-    Part {
-        from: from,
-        to: to,
-    }
+    Part { from: from, to: to }
 }
 
 // Searches run `run` for v and moves it there.

@@ -6,9 +6,9 @@ use mathlib.Core.Logic.{_⊎_}
 use mathlib.Core.Path.{_≡_}
 use lib.Dec.{eqb}
 use lib.ListN.{length, drop}
-use Rattle.model.specs.Rows.{Rise, equal, below}
+use Rattle.model.specs.Rows.{Rise, equal}
 use Rattle.model.specs.Runs.{Run, lastBin, pastBin, mask, mostRuns}
-use Rattle.model.specs.Walk.{Event, head, tthHead, movedOn, walk}
+use Rattle.model.specs.Walk.{Event, head, movedOn, walk}
 use Rattle.walk_keys.specs.Row.{belowCount}
 use Rattle.walk_write.specs.declared.State.{State}
 use Rattle.walk_write.specs.declared.Turn.{Turn}

@@ -1,7 +1,6 @@
 -- `answer` lends rows to the walk and returns how it ended. Assumes nothing.
 use Prim.Native.Nat.{_≤_}
 use lib.ListN.{length}
-use native.Mathlib.Omega.{arith}
 use Rattle.model.specs.Runs.{mostRuns}
 use Rattle.model.proofs.FirstChecks.{first-passed}
 use Rattle.query.specs.Outcomes.{outcomeIs}

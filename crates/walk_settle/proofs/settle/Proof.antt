@@ -1,8 +1,7 @@
 -- `settle` writes the floor as an answer where enough heads equal it, and moves on. Assumes nothing.
 use Prim.Native.Nat.{_+_, _*_}
-use lib.ListN.{drop, take}
-use mathlib.Core.Path.{_≡_, refl, sym, ap, _∙_, subst}
-use native.Mathlib.Omega.{arith}
+use lib.ListN.{drop}
+use mathlib.Core.Path.{_≡_, ap, _∙_, subst}
 use Rattle.walk_keys.specs.Row.{belowCount}
 use Rattle.walk_write.specs.Writes.{Answers}
 use Rattle.walk_settle.proofs.Passing.{front-asks}

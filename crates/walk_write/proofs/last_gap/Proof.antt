@@ -3,7 +3,7 @@ use Prim.Native.Nat.{_-_, _^_}
 use lib.ListN.{length, drop}
 use lib.Pow.{pow-pos, pow-mono}
 use mathlib.Core.List.{_∷_, []}
-use mathlib.Core.Path.{_≡_, refl, sym, ap, _∙_, subst}
+use mathlib.Core.Path.{_≡_, refl, _∙_, subst}
 use native.Mathlib.Omega.{arith}
 use Rattle.model.specs.Certificate.{gap}
 use Rattle.model.specs.Walk.{wrote}
