@@ -29,9 +29,9 @@ use Rattle.walk_settle.proofs.Passing.{labels, number, few-runs, taken-out, hea
 use Rattle.walk_progress.proofs.Rounds.{gapBefore, gap-mask, round-is, quiet-searches}
 use Rattle.walk_write.proofs.Rows.{front-mask, front-names}
 use Rattle.walk_state.specs.Moves.{SearchReady}
-use Rattle.walk_seek.specs.Searched.{SearchedRuns}
+use Rattle.walk_searches.specs.Searches.{SearchedRuns}
 use Rattle.walk_state.specs.State.{runsAt, Holds}
-use Rattle.walk_seek.specs.declared.Moved.the-variants as moved
+use Rattle.walk_searches.specs.declared.Moved.the-variants as moved
 use Rattle.walk_state.proofs.Going.{searched-still}
 
 pub heads-small : (f : ℕ) (rs : List Run) → ((r : Run) → List·Memᴰ r rs → Rise f (r .bins)) → Heads rs

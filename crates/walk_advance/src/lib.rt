@@ -4,7 +4,7 @@ ghost use Rattle.walk_state.specs.State.{runsAt};
 ghost use Rattle.walk_write.specs.Writes.{Fitted};
 ghost use Rattle.walk_settle.specs.Turns.{Stands, Goes};
 ghost use Rattle.walk_advance.specs.Advances.{Raises, Advances};
-use walk_seek::Moved;
+use walk_searches::Moved;
 use walk_write::State;
 use walk_write::Turn;
 use walk_write::Wrote;
@@ -31,7 +31,7 @@ pub fn advance(
     else {
         return Turn::Stopped(6, w);
     };
-    let Moved::On { start, left } = walk_seek::search_runs(
+    let Moved::On { start, left } = walk_searches::search_runs(
         numbers,
         ends,
         positions,

@@ -9,9 +9,9 @@ use Rattle.walk_write.specs.declared.Wrote.the-variants.{On}
 use Rattle.walk_advance.proofs.Advancing.{search-ready, named-small, gap-stops, searches-stop, stands-there, then-settles}
 use Rattle.walk_settle.proofs.Passing.{front-asks}
 use Rattle.walk_state.specs.Moves.{SearchReady}
-use Rattle.walk_seek.specs.Searched.{SearchedRuns}
+use Rattle.walk_searches.specs.Searches.{SearchedRuns}
 use Rattle.walk_state.specs.State.{runsAt}
-use Rattle.walk_seek.specs.declared.Moved.the-variants as moved
+use Rattle.walk_searches.specs.declared.Moved.the-variants as moved
 use borrow.Author.Needs.{needs}
 use Rattle.walk_advance.proofs.advance.Statement.{statement}
 use Rattle.walk_advance.proofs.advance.Tie as tie
