@@ -1,23 +1,13 @@
 // The question: which bins at least t of the runs hold, with a certificate (document 01, 'The walk').
 ghost use mathlib.Core.Path.{_≡_};
 ghost use Prim.Native.Nat.{_≤_};
-ghost use Rattle.walk_state.specs.State.{runsAt};
-ghost use Rattle.walk_write.specs.Writes.{Fitted, countsOf};
-ghost use Rattle.walk_round.specs.Turns.{Stands};
-ghost use Rattle.query.specs.Ends.{Finishes, Begins, ComesTo};
+ghost use Rattle.walk_write.specs.Writes.{countsOf};
 ghost use Rattle.model.specs.Demands.{Demand2, Demand3};
 ghost use Rattle.model.specs.Refusals.{passed, firstChecks, query};
 ghost use Rattle.walk_progress.specs.Progress.{outcomeAt};
 ghost use Rattle.query.specs.Outcomes.{outcomeIs, Returns};
 use first_checks::Checked;
-use walk_write::State;
-use walk_write::Turn;
-
-// How a walk ended: the refusal's number, or 0, and where the walk stood.
-pub struct End {
-    pub number: u8,
-    pub at: State,
-}
+use walk_rounds::End;
 
 // What a question returns: the counts, or the refusal's number and place with the counts.
 pub enum Outcome {
@@ -34,78 +24,6 @@ pub enum Outcome {
         bytes: usize,
         probes: u32,
     },
-}
-
-// Rounds until one ends the walk.
-fn all_rounds(
-    numbers: &[u32],
-    ends: &[u32],
-    threshold: usize,
-    positions: &mut [u32],
-    keys: &mut [u64],
-    answers: &mut [u32],
-    certificate: &mut [u8],
-    w: State,
-) -> End
-    requires { ⌜ Stands (now numbers) (now ends) (now positions) (now keys) threshold w × Fitted (now answers) (now certificate) w ⌝ }
-    ensures { λ r. ⌜ Finishes (runsAt 0 (now (numbers .entry)) (now (positions .entry)) (now (ends .entry))) threshold w (now (answers .entry)) (now (certificate .entry)) (now (answers .exit)) (now (certificate .exit)) r ⌝ }
-{
-    let mut x = w;
-    loop {
-        match walk_round::round(
-            numbers,
-            ends,
-            threshold,
-            positions,
-            keys,
-            answers,
-            certificate,
-            x,
-        ) {
-            Turn::On(y) => {
-                x = y;
-            }
-            Turn::Done(y) => return End { number: 0, at: y },
-            Turn::Stopped(number, y) => return End {
-                number: number,
-                at: y,
-            },
-        }
-    }
-}
-
-// The walk from its beginning to its end.
-fn whole_walk(
-    numbers: &[u32],
-    ends: &[u32],
-    threshold: usize,
-    allowance: u32,
-    positions: &mut [u32],
-    keys: &mut [u64],
-    answers: &mut [u32],
-    certificate: &mut [u8],
-) -> End
-    requires { ⌜ Begins (now numbers) (now ends) threshold (now positions) (now keys) ⌝ }
-    ensures { λ r. ⌜ ComesTo (query (now (numbers .entry)) (now (ends .entry)) threshold allowance (now (answers .entry)) (now (certificate .entry))) allowance (now (answers .exit)) (now (certificate .exit)) r ⌝ }
-{
-    let start = walk_step::begin(numbers, ends, positions, keys);
-    all_rounds(
-        numbers,
-        ends,
-        threshold,
-        positions,
-        keys,
-        answers,
-        certificate,
-        State {
-            floor: 0,
-            start: start,
-            answers: 0,
-            parts: 0,
-            bytes: 0,
-            left: allowance,
-        },
-    )
 }
 
 // What an ended walk returns.
@@ -132,7 +50,8 @@ fn outcome_of(end: End, allowance: u32) -> Outcome
     }
 }
 
-// A question that passes the first checks. It needs no memory but two rows of 64 numbers.
+// A question that passes the first checks. Nothing is allocated: its positions and its keys are two rows with a place for each run, and two more such rows
+// are in use while the row of keys is made anew.
 fn answer(
     numbers: &[u32],
     ends: &[u32],
@@ -144,10 +63,10 @@ fn answer(
     requires { ⌜ firstChecks (now numbers) (now ends) threshold ≡ passed ⌝ }
     ensures { λ r. ⌜ Returns (query (now (numbers .entry)) (now (ends .entry)) threshold allowance (now (answers .entry)) (now (certificate .entry))) (outcomeIs r) (now (answers .exit)) (now (certificate .exit)) ⌝ }
 {
-    let mut positions = [0u32; 64];
-    let mut keys = [0u64; 64];
+    let mut positions = [0u32; limits::MOST_RUNS];
+    let mut keys = [0u64; limits::MOST_RUNS];
     let k = ends.len();
-    let end = whole_walk(
+    let end = walk_rounds::whole_walk(
         numbers,
         ends,
         threshold,

@@ -5,6 +5,9 @@ ghost use lib.ListN.{length, take, drop};
 ghost use Rattle.walk_keys.specs.Row.{belowCount, labelSum, Labels, nthHead};
 ghost use Rattle.model.specs.Runs.{maskBits};
 
+// A number above every key.
+pub const NO_KEY: u64 = limits::PAST_BIN * 256;
+
 // How many keys are below a limit, and the mask of their runs.
 pub struct Below {
     pub count: usize,

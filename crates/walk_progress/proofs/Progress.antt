@@ -2,13 +2,11 @@
 -- check that fails ends it. Assumes nothing.
 use Prim.Native.Nat.{ℕ, zero, suc, _+_, _-_, _≤_, _<_}
 use borrow.Author.Tests.{eq-eqb, ne-eqb, le-ltb, lt-ltb}
-use lib.Dec.{eqb, ltb}
-use lib.ListN.{length, take, drop, set, replicate, length-append, length-take}
+use lib.ListN.{length, take, drop, set, length-append}
 use lib.Seq.{take-append-seam, drop-append-add, drop-drop, length-take-le, set-split}
-use mathlib.Core.Bool.{true, false}
 use mathlib.Core.List.{List, [], _∷_, _++_, append-assoc, append-nil}
 use mathlib.Core.Logic.{⊎-elim, _≢_}
-use mathlib.Core.Path.{_≡_, refl, sym, ap, ap₂, _∙_}
+use mathlib.Core.Path.{_≡_, refl, sym, ap, _∙_}
 use native.Mathlib.Omega.{arith}
 use Rattle.field_write.proofs.Placed.{placed-length}
 use Rattle.field_write.specs.Stored.{placed}

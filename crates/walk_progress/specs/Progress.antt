@@ -1,6 +1,6 @@
 -- A question under way: what it comes to, given what is written so far and what its walk is still to do. Definitions only.
 use Prim.Native.Nat.{ℕ, zero, suc, _+_, _-_}
-use mathlib.Core.List.{List, [], _∷_}
+use mathlib.Core.List.{List}
 use lib.ListN.{length}
 use Rattle.field_write.specs.Stored.{placed}
 use Rattle.model.specs.Certificate.{answersOf, encode}

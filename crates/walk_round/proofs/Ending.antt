@@ -1,26 +1,27 @@
 -- A round as the code takes it: the last gap where too few runs have a head, and the t-th key otherwise. Assumes nothing.
-use Prim.Native.Nat.{ℕ, zero, suc, _+_, _-_, _*_, _^_, _/_, _≤_, _<_}
-use lib.Dec.{ltb, leb}
+use Prim.Native.Nat.{ℕ, _-_, _^_, _/_, _≤_, _<_}
+use lib.Dec.{ltb}
 use lib.ListN.{length, getD, drop, length-drop}
 use mathlib.Core.List.{List, [], _∷_, List·Memᴰ}
-use mathlib.Core.Path.{_≡_, refl, sym, ap, _∙_, subst}
+use mathlib.Core.Path.{_≡_, sym, ap, _∙_, subst}
 use native.Mathlib.Omega.{arith}
 use Rattle.model.specs.Certificate.{gap}
 use Rattle.model.specs.Runs.{Run, lastBin, pastBin, mask}
 use Rattle.model.specs.Walk.{wrote, head, round, walk}
 use Rattle.model.specs.Rows.{below}
 use Rattle.model.proofs.Masks.{mask-only}
-use Rattle.walk_keys.specs.Row.{labelSum, nthHead}
+use Rattle.walk_keys.specs.Row.{noKey, labelSum, nthHead}
 use Rattle.walk_keys.proofs.Row.{member-at}
 use Rattle.walk_progress.proofs.Progress.{onward-end}
 use Rattle.walk_write.specs.Writes.{countsOf, goesOn, endsWith, Fitted, LastReady, LastGap}
-use Rattle.walk_round.specs.Turns.{Stands, Goes, Raises, Advances}
+use Rattle.walk_settle.specs.Turns.{Stands, Goes}
+use Rattle.walk_advance.specs.Advances.{Raises, Advances}
 use Rattle.walk_write.specs.declared.State.{State}
 use Rattle.walk_write.specs.declared.Turn.{Turn}
 use Rattle.walk_write.specs.declared.Turn.the-variants.{On, Done, Stopped}
-use Rattle.walk_round.proofs.Advancing.{heads-small}
-use Rattle.walk_round.proofs.Passing.{labels, number, few-runs}
-use Rattle.walk_round.proofs.Rounds.{gap-mask, round-ends}
+use Rattle.walk_advance.proofs.Advancing.{heads-small}
+use Rattle.walk_settle.proofs.Passing.{labels, number, few-runs}
+use Rattle.walk_progress.proofs.Rounds.{gap-mask, round-ends}
 use Rattle.walk_write.proofs.Rows.{row-labels, row-bins, row-length, row-mask, tth-key}
 use Rattle.walk_state.proofs.Moving.{past-is}
 use Rattle.walk_state.specs.State.{runsAt}
@@ -49,6 +50,7 @@ module _ (numbers ends positions keys A B : List ℕ) (t : ℕ) (w : State) (s :
       row-bins rs (labels numbers ends positions keys (w .start) (s .few) (s .holds)) (few-runs numbers ends positions keys (w .start) (s .few) (s .holds)) row (s .holds .order)
 
   pub last-ready : LastReady ends keys B w
+  unfolding noKey
   last-ready =
       let m = mask-only (λ r. ltb (head r) pastBin) rs (labels numbers ends positions keys (w .start) (s .few) (s .holds)) in
       let e = row-named in

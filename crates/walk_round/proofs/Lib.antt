@@ -1,5 +1,1 @@
-pub mod Advancing
 pub mod Ending
-pub mod Passing
-pub mod Rounds
-pub mod Settling

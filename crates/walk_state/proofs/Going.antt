@@ -1,17 +1,17 @@
 -- A move of all the runs that a mask names, one run at a time: at each turn the runs that are still named are where they were, the others are moved.
 -- Assumes nothing.
-use Prim.Native.Nat.{ℕ, zero, suc, _+_, _-_, _*_, _/_, _%_, _^_, _≤_, _<_}
-use borrow.Author.Tests.{eq-eqb, ne-eqb, lt-ltb, le-ltb, ltb-true, eqb-true}
-use lib.Dec.{ltb, eqb}
-use lib.ListN.{length, getD, take, drop, set, length-set, length-drop, length-map}
+use Prim.Native.Nat.{ℕ, zero, suc, _+_, _-_, _^_, _≤_, _<_}
+use borrow.Author.Tests.{eq-eqb, ne-eqb}
+use lib.Dec.{ltb}
+use lib.ListN.{length, getD, take, drop, set, length-set}
 use lib.Seq.{getD-set-same, getD-set-other, drop-drop}
-use mathlib.Core.Bool.{Bool, true, false, not}
+use mathlib.Core.Bool.{true, false}
 use mathlib.Core.List.{List, [], _∷_, map, List·Memᴰ, List·Memᴰ·head, List·Memᴰ·tail}
 use mathlib.Core.Logic.{⊎-elim, _≢_}
-use mathlib.Core.Path.{_≡_, refl, sym, ap, ap₂, _∙_, subst}
-use native.Mathlib.Nat.{zero-div, zero-mod}
+use mathlib.Core.Path.{_≡_, refl, sym, ap, ap₂, _∙_}
+use native.Mathlib.Nat.{zero-div}
 use native.Mathlib.Omega.{arith}
-use Rattle.model.specs.Runs.{Run, pastBin, total, bit, names, slice}
+use Rattle.model.specs.Runs.{Run, pastBin, total, bit, names, slice, mostRuns}
 use Rattle.model.specs.Walk.{head, headOf, seek, searchIn, searches, searched}
 use Rattle.model.specs.Compared.{cost, probe, probesOf}
 use Rattle.model.proofs.Bounds.{search-cost, search-none}
@@ -104,7 +104,7 @@ getD-map f (r ∷ rs) zero h = refl
 getD-map f (r ∷ rs) (suc j) h = getD-map f rs j (omega arith)
 
 module _ (numbers ends positions : List ℕ) (rest run : ℕ) (rs : List Run) (m : Run → Run) (labels : Labelled 0 rs) (number : length rs ≡ length ends)
-    (few : length ends ≤ 64) (p : Placed numbers ends rs m rest positions) (named : bit rest run ≡ 1) where
+    (few : length ends ≤ mostRuns) (p : Placed numbers ends rs m rest positions) (named : bit rest run ≡ 1) where
   index : run < length ends
   index = below-only rest (length ends) run (p .only) named
 

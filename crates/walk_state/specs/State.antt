@@ -1,10 +1,10 @@
 -- The state of a walk as the code holds it: a row of positions, and a row of keys in rising order, one for each run that has a head. Definitions only.
-use Prim.Native.Nat.{ℕ, zero, suc, _+_, _-_, _*_, _^_, _≤_, _<_}
-use mathlib.Core.Bool.{Bool, true, false}
-use mathlib.Core.List.{List, [], _∷_, List·Memᴰ}
+use Prim.Native.Nat.{ℕ, suc, _+_, _-_, _*_, _^_, _≤_, _<_}
+use mathlib.Core.Bool.{true, false}
+use mathlib.Core.List.{List, [], _∷_}
 use mathlib.Core.Path.{_≡_}
 use lib.Dec.{ltb}
-use lib.ListN.{length, getD, take, drop}
+use lib.ListN.{length, getD, drop}
 use Rattle.model.specs.Rows.{Ordered}
 use Rattle.model.specs.Runs.{Run, slice, pastBin, total, names}
 use Rattle.model.specs.Walk.{head}

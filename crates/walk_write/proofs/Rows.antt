@@ -1,17 +1,17 @@
 -- What the row of keys says of the runs: how many have a head, the t-th smallest head, and which runs have a head below a bin. Assumes nothing.
-use Prim.Native.Nat.{ℕ, zero, suc, _+_, _-_, _*_, _/_, _%_, _^_, _≤_, _<_}
-use borrow.Author.Tests.{lt-ltb, le-ltb, le-leb, lt-leb, ltb-true, ltb-false, leb-true, eq-eqb, ne-eqb}
-use lib.Dec.{ltb, leb, eqb}
+use Prim.Native.Nat.{ℕ, suc, _+_, _-_, _*_, _/_, _%_, _^_, _≤_, _<_}
+use borrow.Author.Tests.{lt-ltb, le-ltb, le-leb, lt-leb}
+use lib.Dec.{ltb, leb}
 use lib.ListN.{length, getD, take, drop}
 use lib.Pow.{pow-mono}
 use lib.Seq.{take-length}
-use mathlib.Core.Bool.{Bool, true, false, not}
+use mathlib.Core.Bool.{Bool, true, false}
 use mathlib.Core.List.{List, [], _∷_, List·Memᴰ, List·Memᴰ·head, List·Memᴰ·tail}
 use mathlib.Core.Logic.{_⊎_, inl, inr, ⊎-elim}
-use mathlib.Core.Path.{_≡_, refl, sym, ap, _∙_, subst}
+use mathlib.Core.Path.{_≡_, refl, sym, ap, _∙_}
 use native.Mathlib.Nat.{le-antisymm}
 use native.Mathlib.Omega.{arith}
-use Rattle.model.specs.Runs.{Run, pastBin, total, one, count, mask, names}
+use Rattle.model.specs.Runs.{Run, pastBin, total, one, count, mask, names, mostRuns, maskBits}
 use Rattle.model.specs.Walk.{head, tthHead}
 use Rattle.model.proofs.Count.{total-eq, total-le, total-zero}
 use Rattle.model.specs.Rows.{below}
@@ -48,7 +48,7 @@ key-below r u h =
     (λ (q : u ≤ head r). le-ltb (head r * 256 + r .label) (u * 256) (omega arith) ∙ sym (le-ltb (head r) u q))
     (lt-or-le (head r) u)
 
-pub one-true : one true ≡ 1
+one-true : one true ≡ 1
 unfolding one
 one-true = refl
 
@@ -75,8 +75,8 @@ not-named-is : (named : ℕ) (c : Run → ℕ) (r : Run) → names named r ≡ f
 unfolding notNamed
 not-named-is named c r e = rw (e, notNamed)
 
-module _ (rs : List Run) (labels : Labelled 0 rs) (few : length rs ≤ 64) (row : List ℕ) (order : InOrder rs row) where
-  small : (r : Run) → List·Memᴰ r rs → r .label < 64
+module _ (rs : List Run) (labels : Labelled 0 rs) (few : length rs ≤ mostRuns) (row : List ℕ) (order : InOrder rs row) where
+  small : (r : Run) → List·Memᴰ r rs → r .label < mostRuns
   small r m = let l = label-below rs labels r m in omega arith
 
   -- a test that the key of no run passes is passed by no key
@@ -98,12 +98,12 @@ module _ (rs : List Run) (labels : Labelled 0 rs) (few : length rs ≤ 64) (row 
       record {
         small = λ k m.
             ⊎-elim
-            (λ (q : k % 256 < 64). q)
-            (λ (q : 64 ≤ k % 256).
+            (λ (q : k % 256 < maskBits). q)
+            (λ (q : maskBits ≤ k % 256).
             absurd
-            (none-pass (λ j. leb 64 (j % 256))
-            (λ r n x. let s = small r n in let e = key-label r (omega arith) in lt-leb 64 (keyOf r % 256) (omega arith)) k m (le-leb 64 (k % 256) q)))
-            (lt-or-le (k % 256) 64);
+            (none-pass (λ j. leb maskBits (j % 256))
+            (λ r n x. let s = small r n in let e = key-label r (omega arith) in lt-leb maskBits (keyOf r % 256) (omega arith)) k m (le-leb maskBits (k % 256) q)))
+            (lt-or-le (k % 256) maskBits);
       }
 
   -- every key's head is a bin
@@ -224,7 +224,7 @@ module _ (rs : List Run) (labels : Labelled 0 rs) (few : length rs ≤ 64) (row 
       weigh-none (λ k. 2 ^ (k % 256)) r x ∙ omega (arith, ap (λ y. y * 2 ^ r .label) w))
       (lt-or-le (head r) pastBin))
 
-  pub row-sum : labelSum row < 2 ^ 64
+  pub row-sum : labelSum row < 2 ^ maskBits
   row-sum = let a = mask-only (λ r. ltb (head r) pastBin) rs labels in let b = pow-mono few in let e = row-mask in omega arith
 
   -- the t-th smallest head is that of the t-th key

@@ -7,7 +7,7 @@ use lib.Dec.{ltb}
 use lib.ListN.{length, drop}
 use Rattle.model.specs.Certificate.{answer, gap}
 use Rattle.model.specs.Walk.{Event, wrote}
-use Rattle.walk_keys.specs.Row.{Labels, labelSum}
+use Rattle.walk_keys.specs.Row.{noKey, Labels, labelSum}
 use Rattle.walk_progress.specs.Progress.{Counts, ended, onward}
 use Rattle.walk_write.specs.declared.Answered.{Answered}
 use Rattle.walk_write.specs.declared.Answered.the-variants as answered′
@@ -73,7 +73,7 @@ pub record LastReady (ends keys certificate : List ℕ) (w : State) : Type 0 whe
   pub starts : w .start ≤ length keys
   pub labels : Labels (drop (w .start) keys)
   pub named : labelSum (drop (w .start) keys) ≤ 2 ^ length ends - 1
-  pub bins : (k : ℕ) → List·Memᴰ k (drop (w .start) keys) → k < 1099511627776
+  pub bins : (k : ℕ) → List·Memᴰ k (drop (w .start) keys) → k < noKey
   pub written : w .bytes ≤ length certificate
   pub parts : w .parts ≤ w .bytes
 

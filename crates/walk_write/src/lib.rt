@@ -71,11 +71,11 @@ pub fn last_gap(ends: &[u32], keys: &[u64], certificate: &mut [u8], w: State) ->
     requires { ⌜ LastReady (now ends) (now keys) (now certificate) w ⌝ }
     ensures { λ r. ⌜ LastGap (now (ends .entry)) (now (keys .entry)) w (now (certificate .entry)) (now (certificate .exit)) r ⌝ }
 {
-    let headed = walk_keys::front(keys, w.start, 1099511627776);
+    let headed = walk_keys::front(keys, w.start, walk_keys::NO_KEY);
     let Wrote::On(x) = gap_to(
         certificate,
         w,
-        4294967295,
+        limits::LAST_BIN,
         mask::all_runs(ends.len()) - headed.named,
     ) else {
         return Turn::Stopped(6, w);

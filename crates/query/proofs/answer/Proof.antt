@@ -1,7 +1,7 @@
 -- `answer` lends rows to the walk and returns how it ended. Assumes nothing.
 use Prim.Native.Nat.{_≤_}
 use lib.ListN.{length}
-use native.Mathlib.Omega.{arith}
+use Rattle.model.specs.Runs.{mostRuns}
 use Rattle.model.proofs.FirstChecks.{first-passed}
 use Rattle.query.specs.Outcomes.{outcomeIs}
 use Rattle.query.proofs.Questions.{ends-so}
@@ -9,7 +9,7 @@ use borrow.Author.Needs.{needs}
 use Rattle.query.proofs.answer.Statement.{statement}
 use Rattle.query.proofs.answer.Tie as tie
 
-few : (c : tie.After-slice-known2) → length (c .before .before .before .before .args .ends .now) ≤ 64
+few : (c : tie.After-slice-known2) → length (c .before .before .before .before .args .ends .now) ≤ mostRuns
 few c = let a = c .before .before .before .before .args in first-passed (a .numbers .now) (a .ends .now) (a .threshold) (c .before .before .before .before .pre) .few-runs
 
 sub-whole-walk : tie.Need-sub-whole-walk

@@ -1,7 +1,7 @@
 -- `outcome_of` returns the counts of an ended walk. Assumes nothing.
-use Prim.Native.Nat.{ℕ, zero, suc, _-_, _<_}
+use Prim.Native.Nat.{ℕ, zero, suc, _-_}
 use mathlib.Core.Logic.{_≢_}
-use mathlib.Core.Path.{_≡_, refl, sym}
+use mathlib.Core.Path.{_≡_, refl}
 use native.Mathlib.Omega.{arith}
 use Rattle.model.specs.Refusals as model
 use Rattle.walk_progress.specs.Progress.{Counts, outcomeAt}

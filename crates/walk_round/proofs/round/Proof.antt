@@ -1,7 +1,7 @@
 -- `round` ends with the last gap where too few runs have a head, and goes on from the t-th smallest head otherwise. Assumes nothing.
 use mathlib.Core.Path.{sym, subst}
 use native.Mathlib.Omega.{arith}
-use Rattle.walk_round.specs.Turns.{Advances}
+use Rattle.walk_advance.specs.Advances.{Advances}
 use Rattle.walk_round.proofs.Ending.{last-ready, ends-there, head-fits, advances}
 use borrow.Author.Needs.{needs}
 use Rattle.walk_round.proofs.round.Statement.{statement}

@@ -1,9 +1,9 @@
 -- `halved` is the defined halving, within the probes left. The invariant: the whole halving equals the one between these places with the probes made so
 -- far. The measure is the width. Assumes nothing.
-use Prim.Native.Nat.{ℕ, _-_, _≤_, _<_}
+use Prim.Native.Nat.{ℕ, _-_, _≤_}
 use lib.ListN.{length}
 use mathlib.Core.List.{List}
-use mathlib.Core.Path.{_≡_, refl, sym, ap, _∙_}
+use mathlib.Core.Path.{_≡_, sym, ap, _∙_}
 use native.Mathlib.Omega.{arith}
 use Rattle.model.specs.Walk.{halving}
 use Rattle.walk_search.specs.Limited.{placeWithin}

@@ -1,8 +1,5 @@
 -- `search` is the defined search, within the probes left: the doubling, and then the halving with what the doubling left. Assumes nothing.
-use Prim.Native.Nat.{_≤_}
-use lib.ListN.{length}
-use mathlib.Core.Path.{_≡_, refl, sym, ap, _∙_}
-use native.Mathlib.Omega.{arith}
+use mathlib.Core.Path.{sym, _∙_}
 use Rattle.walk_search.proofs.Laws.{spent-doubling, Doubled, doubled-is, doubled-inside, spent-halving, found}
 use borrow.Author.Needs.{needs}
 use Rattle.walk_search.proofs.search.Statement.{statement}

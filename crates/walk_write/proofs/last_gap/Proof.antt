@@ -3,12 +3,12 @@ use Prim.Native.Nat.{_-_, _^_}
 use lib.ListN.{length, drop}
 use lib.Pow.{pow-pos, pow-mono}
 use mathlib.Core.List.{_∷_, []}
-use mathlib.Core.Path.{_≡_, refl, sym, ap, _∙_, subst}
+use mathlib.Core.Path.{_≡_, refl, _∙_, subst}
 use native.Mathlib.Omega.{arith}
 use Rattle.model.specs.Certificate.{gap}
 use Rattle.model.specs.Walk.{wrote}
-use Rattle.model.specs.Runs.{lastBin}
-use Rattle.walk_keys.specs.Row.{labelSum}
+use Rattle.model.specs.Runs.{lastBin, pastBin}
+use Rattle.walk_keys.specs.Row.{noKey, labelSum}
 use Rattle.walk_write.specs.Writes.{Writes}
 use Rattle.walk_write.specs.declared.Wrote.the-variants.{On, Full}
 use Rattle.walk_write.proofs.Rows.{whole-front}
@@ -27,10 +27,11 @@ all-runs-requires c κs = search needs
 
 -- the front below the limit is the whole row
 named : (c : tie.After-front) → (let a = c .before .before .before .before .args in c .front .result .named ≡ labelSum (drop (a .w .start) (a .keys .now)))
+unfolding noKey pastBin
 named c =
     let s = c .before .before .before .before in
     let a = s .args in
-    c .front .ensures .1 ∙ whole-front 1099511627776 (c .front .result .count) (drop (a .w .start) (a .keys .now)) (s .pre .bins) (c .front .ensures .0)
+    c .front .ensures .1 ∙ whole-front noKey (c .front .result .count) (drop (a .w .start) (a .keys .now)) (s .pre .bins) (c .front .ensures .0)
 
 -- the mask that is written
 mask : (c : tie.After-all-runs)
@@ -65,8 +66,8 @@ returns c =
     let a = r .before .before .before .before .before .before .args in (
       refl,
       refl,
-      subst (λ x. Writes (wrote (gap (a .w .floor) 4294967295 x) ∷ []) (a .w) (a .certificate .now) (g .gap-to .last .0) Full) (mask r)
-          (subst (λ x. Writes (wrote (gap (a .w .floor) 4294967295 (r .all-runs .result - r .before .before .front .result .named)) ∷ []) (a .w) (a .certificate .now)
+      subst (λ x. Writes (wrote (gap (a .w .floor) lastBin x) ∷ []) (a .w) (a .certificate .now) (g .gap-to .last .0) Full) (mask r)
+          (subst (λ x. Writes (wrote (gap (a .w .floor) lastBin (r .all-runs .result - r .before .before .front .result .named)) ∷ []) (a .w) (a .certificate .now)
           (g .gap-to .last .0) x) (c .enum-told .given .1) (g .gap-to .ensures)),
     )
 
@@ -79,8 +80,8 @@ returns-2 c =
     let g = c .before .before .before .before .before in
     let r = g .before .before in
     let a = r .before .before .before .before .before .before .args in
-    subst (λ x. Writes (wrote (gap (a .w .floor) 4294967295 x) ∷ []) (a .w) (a .certificate .now) (g .gap-to .last .0) (On (c .before .x .given .0 .0))) (mask r)
-    (subst (λ x. Writes (wrote (gap (a .w .floor) 4294967295 (r .all-runs .result - r .before .before .front .result .named)) ∷ []) (a .w) (a .certificate .now)
+    subst (λ x. Writes (wrote (gap (a .w .floor) lastBin x) ∷ []) (a .w) (a .certificate .now) (g .gap-to .last .0) (On (c .before .x .given .0 .0))) (mask r)
+    (subst (λ x. Writes (wrote (gap (a .w .floor) lastBin (r .all-runs .result - r .before .before .front .result .named)) ∷ []) (a .w) (a .certificate .now)
     (g .gap-to .last .0) x) (c .before .x .given .1) (g .gap-to .ensures))
 
 pub last-gap-spec : {M : Type 1} → statement M

@@ -1,0 +1,22 @@
+-- What a round raises, and what it asks from the t-th smallest head on. Definitions only.
+use Prim.Native.Nat.{ℕ, _≤_, _<_}
+use mathlib.Core.List.{List}
+use mathlib.Core.Path.{_≡_}
+use Rattle.model.specs.Rows.{below}
+use Rattle.model.specs.Runs.{pastBin}
+use Rattle.model.specs.Walk.{tthHead}
+use Rattle.walk_state.specs.State.{runsAt}
+use Rattle.walk_write.specs.declared.Turn.{Turn}
+use Rattle.walk_write.specs.declared.Turn.the-variants.{On, Done, Stopped}
+
+-- a round that goes on raises the floor
+abbrev pub Raises : ℕ → Turn → Type 0
+Raises floor (On w′) = floor < w′ .floor
+Raises floor (Done w′) = Unit
+Raises floor (Stopped x w′) = Unit
+
+-- v is the t-th smallest head, and runs enough have one
+pub record Advances (numbers ends positions : List ℕ) (t v : ℕ) : Type 0 where
+  pub bin : v < pastBin
+  pub left : t ≤ below pastBin (runsAt 0 numbers positions ends)
+  pub tth : tthHead t (runsAt 0 numbers positions ends) ≡ v

@@ -1,0 +1,108 @@
+-- A round of the walk in the terms of the code: the gap before v, the searches, the answer; and the mask that a gap names. Assumes nothing.
+use Prim.Native.Nat.{ℕ, zero, suc, _+_, _-_, _*_, _^_, _≤_, _<_}
+use borrow.Author.Tests.{lt-ltb, le-ltb, le-leb, lt-leb, eq-eqb, ne-eqb}
+use lib.Dec.{ltb, leb, eqb}
+use lib.ListN.{length, replicate}
+use mathlib.Core.Bool.{Bool, true, false, not}
+use mathlib.Core.List.{List, [], _∷_, _++_, map}
+use mathlib.Core.Logic.{⊎-elim, _≢_}
+use mathlib.Core.Path.{_≡_, refl, sym, ap, _∙_}
+use native.Mathlib.Omega.{arith}
+use Rattle.model.specs.Certificate.{answer, gap}
+use Rattle.model.specs.Runs.{Run, lastBin, pastBin, one, count, mask}
+use Rattle.model.specs.Walk.{Event, doubled, halved, wrote, head, tthHead, seek, searchIn, searches, searched, movedOn, settle, round}
+use Rattle.model.proofs.Bounds.{search-made, search-none}
+use Rattle.model.proofs.Count.{total-eq, total-add}
+use Rattle.model.specs.Rows.{below, equal}
+use Rattle.model.proofs.Masks.{Labelled, every, mask-all}
+use Rattle.model.proofs.Tests.{lt-or-le}
+use Rattle.model.proofs.Truth.{not-below}
+use Rattle.walk_progress.proofs.Progress.{Quiet, quiet-nil, quiet-sought, quiet-doubled, quiet-halved}
+
+-- ---- masks
+
+one-not : (b : Bool) → one b + one (not b) ≡ one true
+unfolding one
+one-not true = refl
+one-not false = refl
+
+mask-split : (p q : Run → Bool) (rs : List Run) → ((r : Run) → q r ≡ not (p r)) → mask p rs + mask q rs ≡ mask every rs
+unfolding mask every
+mask-split p q rs h =
+    sym (total-add (λ r. one (p r) * 2 ^ r .label) (λ r. one (q r) * 2 ^ r .label) rs)
+    ∙ total-eq _ (λ r. one true * 2 ^ r .label) rs
+    (λ r m.
+    let e = one-not (p r) in
+    let f = ap one (h r) in
+    let k : one (p r) + one (q r) ≡ one true = omega arith in
+    omega (arith, ap (λ x. x * 2 ^ r .label) k))
+
+-- the mask of the runs whose head is not below v: all but those whose head is
+pub gap-mask : (rs : List Run) → Labelled 0 rs → (v : ℕ) → 2 ^ length rs - 1 - mask (λ r. ltb (head r) v) rs ≡ mask (λ r. leb v (head r)) rs
+gap-mask rs l v =
+    let a = mask-all rs l in
+    let b = mask-split (λ r. ltb (head r) v) (λ r. leb v (head r)) rs (λ r. not-below (head r) v) in
+    let e = ap (λ x. 2 ^ x) (native.Mathlib.Nat.zero-add (length rs)) in
+    omega arith
+
+-- ---- rounds
+
+pub round-ends : (next : ℕ → List Run → List Event) (t f : ℕ) (rs : List Run) → below pastBin rs < t
+    → round next t f rs ≡ wrote (gap f lastBin (mask (λ r. leb pastBin (head r)) rs)) ∷ []
+unfolding round below
+round-ends next t f rs h = rw (lt-ltb (count (λ r. ltb (head r) pastBin) rs) t h, round)
+
+-- the gap before v, where there is one
+unfoldable pub gapBefore : ℕ → ℕ → List Run → List Event
+gapBefore f v rs = elim (ltb f v) [ true ↦ wrote (gap f (v - 1) (mask (λ r. leb v (head r)) rs)) ∷ [] | false ↦ [] ]
+
+pub round-is : (next : ℕ → List Run → List Event) (t f v : ℕ) (rs : List Run) → t ≤ below pastBin rs → tthHead t rs ≡ v
+    → round next t f rs ≡ gapBefore f v rs ++ (searches v rs ++ settle next t v (map (searched v) rs))
+unfolding round below gapBefore
+round-is next t f v rs h e =
+    rw (le-ltb (count (λ r. ltb (head r) pastBin) rs) t h, round)
+    (ap (λ x. gapBefore f x rs ++ (searches x rs ++ settle next t x (map (searched x) rs))) e)
+
+pub settle-passes : (next : ℕ → List Run → List Event) (t v : ℕ) (rs : List Run) → equal v rs < t → settle next t v rs ≡ next v rs
+unfolding settle equal
+settle-passes next t v rs h = rw (lt-leb t (count (λ r. eqb (head r) v) rs) h, settle)
+
+pub settle-answers : (next : ℕ → List Run → List Event) (t v : ℕ) (rs : List Run) → t ≤ equal v rs → v ≢ lastBin
+    → settle next t v rs ≡ wrote (answer v (mask (λ r. eqb (head r) v) rs)) ∷ next (suc v) (map (movedOn v) rs)
+unfolding settle equal
+settle-answers next t v rs h n = rw (le-leb t (count (λ r. eqb (head r) v) rs) h, ne-eqb v lastBin n, settle)
+
+pub settle-ends : (next : ℕ → List Run → List Event) (t v : ℕ) (rs : List Run) → t ≤ equal v rs → v ≡ lastBin
+    → settle next t v rs ≡ wrote (answer v (mask (λ r. eqb (head r) v) rs)) ∷ []
+unfolding settle equal
+settle-ends next t v rs h n = rw (le-leb t (count (λ r. eqb (head r) v) rs) h, eq-eqb v lastBin n, settle)
+
+-- ---- searches write nothing
+
+quiet-append : {as′ bs : List Event} → Quiet as′ → Quiet bs → Quiet (as′ ++ bs)
+quiet-append quiet-nil q = q
+quiet-append (quiet-sought p) q = quiet-sought (quiet-append p q)
+quiet-append (quiet-doubled p) q = quiet-doubled (quiet-append p q)
+quiet-append (quiet-halved p) q = quiet-halved (quiet-append p q)
+
+quiet-doublings : (n l : ℕ) → Quiet (replicate n (doubled l))
+quiet-doublings zero l = quiet-nil
+quiet-doublings (suc n) l = quiet-doubled (quiet-doublings n l)
+
+quiet-halvings : (n l : ℕ) → Quiet (replicate n (halved l))
+quiet-halvings zero l = quiet-nil
+quiet-halvings (suc n) l = quiet-halved (quiet-halvings n l)
+
+quiet-search : (v : ℕ) (r : Run) → Quiet (searchIn v r)
+quiet-search v r =
+    ⊎-elim
+    (λ (h : head r < v).
+    rw (search-made v r h)
+    (quiet-sought (quiet-append (quiet-doublings (seek v (r .bins) .doublings) (r .label)) (quiet-halvings (seek v (r .bins) .halvings) (r .label)))))
+    (λ (h : v ≤ head r). rw (search-none v r h) quiet-nil)
+    (lt-or-le (head r) v)
+
+pub quiet-searches : (v : ℕ) (rs : List Run) → Quiet (searches v rs)
+unfolding searches
+quiet-searches v [] = quiet-nil
+quiet-searches v (r ∷ rs) = quiet-append (quiet-search v r) (quiet-searches v rs)

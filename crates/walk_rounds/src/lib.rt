@@ -1,0 +1,86 @@
+// The walk from its beginning to its end (document 01, 'The walk'): each run at its first number, then rounds until one ends it.
+ghost use Rattle.walk_state.specs.State.{runsAt};
+ghost use Rattle.walk_write.specs.Writes.{Fitted};
+ghost use Rattle.walk_settle.specs.Turns.{Stands};
+ghost use Rattle.walk_rounds.specs.Ends.{Finishes, Begins, ComesTo};
+ghost use Rattle.model.specs.Refusals.{query};
+use walk_write::State;
+use walk_write::Turn;
+
+// How a walk ended: the refusal's number, or 0, and where the walk stood.
+pub struct End {
+    pub number: u8,
+    pub at: State,
+}
+
+// Rounds until one ends the walk.
+fn all_rounds(
+    numbers: &[u32],
+    ends: &[u32],
+    threshold: usize,
+    positions: &mut [u32],
+    keys: &mut [u64],
+    answers: &mut [u32],
+    certificate: &mut [u8],
+    w: State,
+) -> End
+    requires { ⌜ Stands (now numbers) (now ends) (now positions) (now keys) threshold w × Fitted (now answers) (now certificate) w ⌝ }
+    ensures { λ r. ⌜ Finishes (runsAt 0 (now (numbers .entry)) (now (positions .entry)) (now (ends .entry))) threshold w (now (answers .entry)) (now (certificate .entry)) (now (answers .exit)) (now (certificate .exit)) r ⌝ }
+{
+    let mut x = w;
+    loop {
+        match walk_round::round(
+            numbers,
+            ends,
+            threshold,
+            positions,
+            keys,
+            answers,
+            certificate,
+            x,
+        ) {
+            Turn::On(y) => {
+                x = y;
+            }
+            Turn::Done(y) => return End { number: 0, at: y },
+            Turn::Stopped(number, y) => return End {
+                number: number,
+                at: y,
+            },
+        }
+    }
+}
+
+// The walk from its beginning to its end.
+pub fn whole_walk(
+    numbers: &[u32],
+    ends: &[u32],
+    threshold: usize,
+    allowance: u32,
+    positions: &mut [u32],
+    keys: &mut [u64],
+    answers: &mut [u32],
+    certificate: &mut [u8],
+) -> End
+    requires { ⌜ Begins (now numbers) (now ends) threshold (now positions) (now keys) ⌝ }
+    ensures { λ r. ⌜ ComesTo (query (now (numbers .entry)) (now (ends .entry)) threshold allowance (now (answers .entry)) (now (certificate .entry))) allowance (now (answers .exit)) (now (certificate .exit)) r ⌝ }
+{
+    let start = walk_step::begin(numbers, ends, positions, keys);
+    all_rounds(
+        numbers,
+        ends,
+        threshold,
+        positions,
+        keys,
+        answers,
+        certificate,
+        State {
+            floor: 0,
+            start: start,
+            answers: 0,
+            parts: 0,
+            bytes: 0,
+            left: allowance,
+        },
+    )
+}

@@ -1,0 +1,62 @@
+// The runs whose head is below v searched for v, in rising run number, and their keys put back.
+ghost use Rattle.walk_state.specs.State.{runsAt};
+ghost use Rattle.walk_state.specs.Moves.{Searchable, SearchReady};
+ghost use Rattle.walk_searches.specs.Searches.{SearchedEach, SearchedRuns};
+use walk_seek::Probed;
+
+// Runs moved, with where the row of keys starts and the probes left; or no probe was left for a search.
+pub enum Moved {
+    On { start: usize, left: u32 },
+    Spent,
+}
+
+// Searches, in rising run number, each run that `movers` names. At most as many turns as there are runs.
+fn search_each(
+    numbers: &[u32],
+    ends: &[u32],
+    positions: &mut [u32],
+    movers: u64,
+    v: u32,
+    allowed: u32,
+) -> Probed
+    requires { ⌜ Searchable (now numbers) (now ends) (now positions) movers v ⌝ }
+    ensures { λ r. ⌜ SearchedEach (now (numbers .entry)) (now (ends .entry)) (runsAt 0 (now (numbers .entry)) (now (positions .entry)) (now (ends .entry))) v allowed (now (positions .exit)) r ⌝ }
+{
+    let mut rest = movers;
+    let mut left = allowed;
+    while 0 < rest {
+        let run = mask::lowest_run(rest);
+        let Probed::Left(after) = walk_seek::search_run(numbers, ends, positions, run, v, left)
+        else {
+            return Probed::NoneLeft;
+        };
+        left = after;
+        rest = mask::without_lowest(rest);
+    }
+    Probed::Left(left)
+}
+
+// Searches each run that `movers` names, and then puts their keys back: a search and a place in the row are both hard to foretell, and apart they cost less.
+pub fn search_runs(
+    numbers: &[u32],
+    ends: &[u32],
+    positions: &mut [u32],
+    keys: &mut [u64],
+    from: usize,
+    movers: u64,
+    v: u32,
+    allowed: u32,
+    count: usize,
+) -> Moved
+    requires { ⌜ SearchReady (now numbers) (now ends) (now positions) (now keys) from movers v ⌝ }
+    ensures { λ r. ⌜ SearchedRuns (now (numbers .entry)) (now (ends .entry)) (runsAt 0 (now (numbers .entry)) (now (positions .entry)) (now (ends .entry))) v allowed (now (positions .exit)) (now (keys .exit)) r ⌝ }
+{
+    let Probed::Left(left) = search_each(numbers, ends, positions, movers, v, allowed) else {
+        return Moved::Spent;
+    };
+    let start = walk_put::put_runs(numbers, ends, positions, keys, from, movers, count);
+    Moved::On {
+        start: start,
+        left: left,
+    }
+}

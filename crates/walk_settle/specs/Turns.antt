@@ -1,0 +1,60 @@
+-- What the steps of a round ask and give: from the state and the buffers before to those after, what the question comes to stays the same.
+-- Definitions only.
+use Prim.Native.Nat.{ℕ, suc, _+_, _-_, _*_, _≤_, _<_}
+use mathlib.Core.List.{List, map, List·Memᴰ}
+use mathlib.Core.Logic.{_⊎_}
+use mathlib.Core.Path.{_≡_}
+use lib.Dec.{eqb}
+use lib.ListN.{length, drop}
+use Rattle.model.specs.Rows.{Rise, equal}
+use Rattle.model.specs.Runs.{Run, lastBin, pastBin, mask, mostRuns}
+use Rattle.model.specs.Walk.{Event, head, movedOn, walk}
+use Rattle.walk_keys.specs.Row.{belowCount}
+use Rattle.walk_write.specs.declared.State.{State}
+use Rattle.walk_write.specs.declared.Turn.{Turn}
+use Rattle.walk_write.specs.declared.Turn.the-variants.{On, Done, Stopped}
+use Rattle.walk_state.specs.State.{runsAt, Holds}
+use Rattle.walk_write.specs.Writes.{countsOf, goesOn, endsWith, Fitted}
+
+-- a state before a round: the rows hold the runs, which rise from the floor on
+pub record Stands (numbers ends positions keys : List ℕ) (t : ℕ) (w : State) : Type 0 where
+  pub few : length ends ≤ mostRuns
+  pub some : 0 < t
+  pub enough : t ≤ length ends
+  pub holds : Holds numbers ends positions keys (w .start) (runsAt 0 numbers positions ends)
+  pub rising : (r : Run) → List·Memᴰ r (runsAt 0 numbers positions ends) → Rise (w .floor) (r .bins)
+  pub bin : w .floor < pastBin
+
+-- what a walk comes to after these events, of which the last are rounds of any number
+abbrev pub Goes : (ℕ → List Event) → List ℕ → List ℕ → ℕ → State → List ℕ → List ℕ → List ℕ → List ℕ → List ℕ → List ℕ → Turn → Type 0
+Goes es numbers ends t w answers certificate positions′ keys′ answers′ certificate′ (On w′) =
+    Stands numbers ends positions′ keys′ t w′ × Fitted answers′ certificate′ w′ × (w′ .left ≤ w .left)
+    × ((allowance n : ℕ) → w .left ≤ allowance → goesOn allowance w answers certificate (es n)
+    ≡ goesOn allowance w′ answers′ certificate′ (walk n t (w′ .floor) (runsAt 0 numbers positions′ ends)))
+Goes es numbers ends t w answers certificate positions′ keys′ answers′ certificate′ (Done w′) =
+    (w′ .left ≤ w .left)
+    × ((allowance n : ℕ) → w .left ≤ allowance → goesOn allowance w answers certificate (es n) ≡ endsWith 0 allowance w′ answers′ certificate′)
+Goes es numbers ends t w answers certificate positions′ keys′ answers′ certificate′ (Stopped x w′) =
+    (0 < x) × (w′ .left ≤ w .left)
+    × ((allowance n : ℕ) → w .left ≤ allowance → goesOn allowance w answers certificate (es n) ≡ endsWith x allowance w′ answers′ certificate′)
+
+-- after the searches for the floor it stays where it is no answer, and is raised otherwise
+abbrev pub Settles : List Run → ℕ → ℕ → Turn → Type 0
+Settles rs t v (On w′) = ((w′ .floor ≡ v) × (equal v rs < t)) ⊎ (v < w′ .floor)
+Settles rs t v (Done w′) = Unit
+Settles rs t v (Stopped x w′) = Unit
+
+-- the runs whose head is the floor, at the front of the row
+pub record AtFloor (numbers ends positions keys : List ℕ) (w : State) (number named : ℕ) : Type 0 where
+  pub counts : number ≡ belowCount ((w .floor + 1) * 256) (drop (w .start) keys)
+  pub names-them : named ≡ mask (λ r. eqb (head r) (w .floor)) (runsAt 0 numbers positions ends)
+
+-- past an answer: the walk ends at the last bin, and goes on from the next one otherwise
+abbrev pub Passes : List ℕ → List ℕ → List ℕ → ℕ → State → List ℕ → List ℕ → Turn → Type 0
+Passes numbers ends positions t w positions′ keys′ (On w′) =
+    Stands numbers ends positions′ keys′ t w′ × (w .floor < lastBin) × (w′ .floor ≡ suc (w .floor))
+    × (runsAt 0 numbers positions′ ends ≡ map (movedOn (w .floor)) (runsAt 0 numbers positions ends))
+    × ((allowance : ℕ) → countsOf allowance w′ ≡ countsOf allowance w) × (w′ .left ≡ w .left)
+    × ((answers certificate : List ℕ) → Fitted answers certificate w → Fitted answers certificate w′)
+Passes numbers ends positions t w positions′ keys′ (Done w′) = (w .floor ≡ lastBin) × (w′ ≡ w)
+Passes numbers ends positions t w positions′ keys′ (Stopped x w′) = ⊥

@@ -1,0 +1,78 @@
+// The end of a round (document 01, 'The walk'): the floor is written as an answer where runs enough hold it, and is passed.
+ghost use Rattle.model.specs.Walk.{settle, walk};
+ghost use Rattle.walk_state.specs.State.{runsAt};
+ghost use Rattle.walk_write.specs.Writes.{Fitted};
+ghost use Rattle.walk_settle.specs.Turns.{Stands, Goes, Settles, AtFloor, Passes};
+use walk_write::Answered;
+use walk_write::State;
+use walk_write::Turn;
+
+// Past an answer at the floor: ends at the last bin, and otherwise moves the runs that hold it on by one.
+fn pass(
+    numbers: &[u32],
+    ends: &[u32],
+    threshold: usize,
+    positions: &mut [u32],
+    keys: &mut [u64],
+    w: State,
+    number: usize,
+    named: u64,
+) -> Turn
+    requires { ⌜ Stands (now numbers) (now ends) (now positions) (now keys) threshold w × AtFloor (now numbers) (now ends) (now positions) (now keys) w number named ⌝ }
+    ensures { λ r. ⌜ Passes (now (numbers .entry)) (now (ends .entry)) (now (positions .entry)) threshold w (now (positions .exit)) (now (keys .exit)) r ⌝ }
+{
+    if w.floor == limits::LAST_BIN {
+        return Turn::Done(w);
+    }
+    let start = walk_step::step_runs(
+        numbers,
+        ends,
+        positions,
+        keys,
+        w.start + number,
+        named,
+        number,
+    );
+    Turn::On(State {
+        floor: w.floor + 1,
+        start: start,
+        answers: w.answers,
+        parts: w.parts,
+        bytes: w.bytes,
+        left: w.left,
+    })
+}
+
+// After the searches: the floor is an answer where at least `threshold` heads equal it.
+pub fn settle(
+    numbers: &[u32],
+    ends: &[u32],
+    threshold: usize,
+    positions: &mut [u32],
+    keys: &mut [u64],
+    answers: &mut [u32],
+    certificate: &mut [u8],
+    w: State,
+) -> Turn
+    requires { ⌜ Stands (now numbers) (now ends) (now positions) (now keys) threshold w × Fitted (now answers) (now certificate) w ⌝ }
+    ensures goes { λ r. ⌜ Goes (λ n. settle (walk n threshold) threshold (w .floor) (runsAt 0 (now (numbers .entry)) (now (positions .entry)) (now (ends .entry)))) (now (numbers .entry)) (now (ends .entry)) threshold w (now (answers .entry)) (now (certificate .entry)) (now (positions .exit)) (now (keys .exit)) (now (answers .exit)) (now (certificate .exit)) r ⌝ }
+    ensures settles { λ r. ⌜ Settles (runsAt 0 (now (numbers .entry)) (now (positions .entry)) (now (ends .entry))) threshold (w .floor) r ⌝ }
+{
+    let here = walk_keys::front(keys, w.start, (arith::u64_of_u32(w.floor) + 1) * 256);
+    if here.count < threshold {
+        return Turn::On(w);
+    }
+    match walk_write::write_answer(answers, certificate, w, here.named) {
+        Answered::Full(number) => Turn::Stopped(number, w),
+        Answered::On(x) => pass(
+            numbers,
+            ends,
+            threshold,
+            positions,
+            keys,
+            x,
+            here.count,
+            here.named,
+        ),
+    }
+}
