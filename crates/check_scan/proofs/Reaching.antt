@@ -17,16 +17,16 @@ use Rattle.mask.proofs.Mask.{bit-and}
 use Rattle.model.proofs.Masks.{bit-small}
 use Rattle.model.proofs.Tests.{both, lt-or-le}
 use Rattle.model.specs.Runs.{bit, one}
-use Rattle.check_cursor.specs.Cursors.{binOf}
+use Rattle.check_cursor.specs.Cursors.{cursorPlaces, binOf}
 use Rattle.check_scan.specs.Scan.{reachedOf, toScan}
 
 -- a cursor's bin is not above l where the cursor is below the first one whose bin is
-pub bin-below : (c l m : ℕ) → m ≡ (l + 1) * 2097152 → one (ltb c m) ≡ one (leb (binOf c) l)
+pub bin-below : (c l m : ℕ) → m ≡ (l + 1) * cursorPlaces → one (ltb c m) ≡ one (leb (binOf c) l)
 unfolding binOf
 bin-below c l m e =
     ⊎-elim
-    (λ (h : c < m). ap one (lt-ltb c m h ∙ sym (le-leb (c / 2097152) l (omega arith))))
-    (λ (h : m ≤ c). ap one (le-ltb c m h ∙ sym (lt-leb (c / 2097152) l (omega arith))))
+    (λ (h : c < m). ap one (lt-ltb c m h ∙ sym (le-leb (c / cursorPlaces) l (omega arith))))
+    (λ (h : m ≤ c). ap one (le-ltb c m h ∙ sym (lt-leb (c / cursorPlaces) l (omega arith))))
     (lt-or-le c m)
 
 -- ---- the runs reached

@@ -16,7 +16,7 @@ use Rattle.model.proofs.Tests.{eq-or-ne}
 use Rattle.model.specs.Refusals.{contradicts, anyContradicts}
 use Rattle.model.specs.Runs.{pastBin, slice, runs, bit}
 use Rattle.model.specs.Walk.{headOf}
-use Rattle.check_cursor.specs.Cursors.{runAt, headIn, placeOf, binOf, Cursors}
+use Rattle.check_cursor.specs.Cursors.{runAt, headIn, cursorPlaces, placeOf, binOf, Cursors}
 use Rattle.check_scan.specs.Scan.{toScan, clash, claim}
 use Rattle.check_cursor.proofs.Moving.{weaken, Behind, Here, here-start, here-more, here-on, here-head, ahead, cursors-on, head-fits}
 use Rattle.check_scan.proofs.Naming.{bit-none, named-says, unnamed-agrees, clash-above, none-contradicts, one-contradicts}
@@ -154,7 +154,7 @@ module _ {numbers ends : List ℕ} {held : Bool} {f l m : ℕ} {cursors : List �
         named-says numbers ends held f l m i x (s .sofar .ready .risen i inside) (s .sofar .low) (s .sofar .high)
         (ap (bit m) (s .which) ∙ s .sofar .named run (s .of-rest)) first-is
 
-    pub scan-fits : (x ≤ 4294967296) × (j ≤ end) × (end < 2097152)
+    pub scan-fits : (x ≤ pastBin) × (j ≤ end) × (end < cursorPlaces)
     scan-fits =
         let a = head-fits numbers ends cursors i f (suc l) inside (s .sofar .ready) in
         let e = first-is in

@@ -13,7 +13,7 @@ fn reached(cursors: &[u64], last: u32) -> u64
     requires { ⌜ length (now cursors) ≤ mostRuns ⌝ }
     ensures { λ r. ⌜ r ≡ reachedOf last (now (cursors .entry)) ⌝ }
 {
-    let limit = (last as u64 + 1) * 2097152;
+    let limit = (last as u64 + 1) * check_cursor::PLACES;
     let mut mask: u64 = 0;
     let mut i = cursors.len();
     while 0 < i {
