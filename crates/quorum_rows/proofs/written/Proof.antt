@@ -1,9 +1,9 @@
 -- `written` returns the parts that stand where a question is refused. Assumes nothing.
 use borrow.Author.Tests.{lt-ltb, le-ltb}
-use Rattle.quorum.specs.Results.{writtenOf}
+use Rattle.quorum_rows.specs.Outcomes.{writtenOf}
 use borrow.Author.Needs.{needs}
-use Rattle.quorum.proofs.written.Statement.{statement}
-use Rattle.quorum.proofs.written.Tie as tie
+use Rattle.quorum_rows.proofs.written.Statement.{statement}
+use Rattle.quorum_rows.proofs.written.Tie as tie
 
 returns : tie.Need-returns
 unfolding writtenOf

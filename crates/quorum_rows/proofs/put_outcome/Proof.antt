@@ -1,11 +1,11 @@
 -- `put_outcome` writes an outcome as a row. Assumes nothing.
 use mathlib.Core.List.{[], _∷_}
 use mathlib.Core.Path.{_≡_, sym, ap, _∙_}
-use Rattle.quorum.specs.Results.{outcomeRow}
+use Rattle.quorum_rows.specs.Outcomes.{outcomeRow}
 use Rattle.query.specs.Outcomes.{outcomeIs}
 use borrow.Author.Needs.{needs}
-use Rattle.quorum.proofs.put_outcome.Statement.{statement}
-use Rattle.quorum.proofs.put_outcome.Tie as tie
+use Rattle.quorum_rows.proofs.put_outcome.Statement.{statement}
+use Rattle.quorum_rows.proofs.put_outcome.Tie as tie
 
 enum-known-outcome : tie.Need-enum-known-outcome
 enum-known-outcome c = search needs
@@ -46,14 +46,12 @@ u64-of-u32-requires-2 c κs = search needs
 returns : tie.Need-returns
 unfolding outcomeRow
 returns c =
-    let a = c .before .before .before .before .before .before .before .before .args in
     (λ i. 0 ∷ 0 ∷ c .before .before .before .before .u64-of-usize .ensures i ∷ c .before .before .before .u64-of-usize2 .ensures i ∷ c .before .before .u64-of-usize3 .ensures i ∷ c .before .u64-of-u32 .ensures i ∷ [])
     ∙ sym (ap (λ o. outcomeRow (outcomeIs o)) (c .before .before .before .before .before .before .outcome .given .1))
 
 returns-2 : tie.Need-returns-2
 unfolding outcomeRow
 returns-2 c =
-    let a = c .before .before .before .before .before .before .before .before .before .args in
     let g = c .before .before .before .before .before .before .before .outcome2 .given in
     (λ i.
     g .0 .0
