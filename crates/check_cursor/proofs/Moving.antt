@@ -1,4 +1,4 @@
--- A run scanned from its cursor on, over the numbers below a bin, and what its first number from the bin on says of an answer or a gap. Assumes nothing.
+-- A run scanned from its cursor on, over the numbers below a bin, and its cursor put where the scan stopped. Assumes nothing.
 use Prim.Native.Nat.{ℕ, suc, _+_, _≤_, _<_}
 use lib.ListN.{length, getD, set, length-set}
 use lib.Seq.{getD-set-same, getD-set-other}

@@ -5,7 +5,7 @@ use lib.Bits.{bitAnd, bitOr, and-step, and-shr, or-step, or-shr, or-disjoint, an
 use lib.Pow.{pow-pos, pow-lt, pow-add, shl-shr, split}
 use mathlib.Core.Logic.{_≢_, ⊎-elim}
 use mathlib.Core.Path.{_≡_, sym, ap, _∙_}
-use native.Mathlib.Nat.{div-eq-of-lt, div-self, mod-lt, mod-eq-of-lt}
+use native.Mathlib.Nat.{div-eq-of-lt, mod-lt, mod-eq-of-lt}
 use native.Mathlib.Omega.{arith}
 use Rattle.model.proofs.Masks.{bit-of}
 use Rattle.model.proofs.Tests.{lt-or-le}

@@ -1,4 +1,4 @@
--- `bound::probe_bound` meets its contract. The loop's invariant is `Summed`: the definition from the start is the definition from here. The measure is
+-- `probe_bound` meets its contract. The loop's invariant is `Summed`: the definition from the start is the definition from here. The measure is
 -- the number of ends to come. Assumes nothing.
 use Prim.Native.Nat.{_-_, _^_, _<_}
 use borrow.Author.Needs.{needs}

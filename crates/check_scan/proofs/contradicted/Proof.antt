@@ -1,5 +1,5 @@
--- `contradicted` takes up the runs that an answer names, or those that a gap names and reaches, and scans each from its cursor on. The invariant over the runs is
--- `Sofar`, that over the numbers of a run is `Scan`; the measures are the mask of the runs left and what is left of the run. Assumes nothing.
+-- `contradicted` takes up the runs that an answer names, or those that a gap names and reaches, and scans each from its cursor on. The invariant over the
+-- runs is `Sofar`, that over the numbers of a run is `Scan`; the measures are the mask of the runs left and what is left of the run. Assumes nothing.
 use Prim.Native.Nat.{suc, _-_, _<_}
 use lib.ListN.{length}
 use lib.Pow.{pow-pos}

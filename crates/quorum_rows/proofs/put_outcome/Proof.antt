@@ -1,6 +1,6 @@
 -- `put_outcome` writes an outcome as a row. Assumes nothing.
 use mathlib.Core.List.{[], _∷_}
-use mathlib.Core.Path.{_≡_, sym, ap, _∙_}
+use mathlib.Core.Path.{sym, ap, _∙_}
 use Rattle.quorum_rows.specs.Outcomes.{outcomeRow}
 use Rattle.query.specs.Outcomes.{outcomeIs}
 use borrow.Author.Needs.{needs}

@@ -1,9 +1,9 @@
--- `risen_part` passes over a block of numbers at a time as long as each is above the one before. The invariant: before place i each is. The measure is what is left.
--- Assumes nothing.
-use Prim.Native.Nat.{ℕ, _+_, _-_, _≤_, _<_}
+-- `risen_part` passes over a block of numbers at a time as long as each is above the one before. The invariant: before place i each is. The measure is
+-- what is left. Assumes nothing.
+use Prim.Native.Nat.{_+_, _-_, _≤_}
 use borrow.Author.Needs.{needs}
 use lib.ListN.{length}
-use mathlib.Core.Path.{_≡_, refl, sym, ap, _∙_}
+use mathlib.Core.Path.{_≡_, refl, _∙_}
 use native.Mathlib.Omega.{arith}
 use Rattle.rising.specs.Rising.{block, fallsIn, RisenTo}
 use Rattle.rising.proofs.Rising.{unrisen-start, falls-none}
