@@ -17,7 +17,7 @@ use Rattle.model.specs.Refusals.{contradicts, anyContradicts}
 use Rattle.model.specs.Runs.{pastBin, slice, runs, bit}
 use Rattle.model.specs.Walk.{headOf}
 use Rattle.check_cursor.specs.Cursors.{runAt, headIn, cursorPlaces, placeOf, binOf, Cursors}
-use Rattle.check_scan.specs.Scan.{toScan, clash, claim}
+use Rattle.check_scan.specs.Scan.{toScan, clash, claim, MorePassed}
 use Rattle.check_cursor.proofs.Moving.{weaken, Behind, Here, here-start, here-more, here-on, here-head, ahead, cursors-on, head-fits}
 use Rattle.check_scan.proofs.Naming.{bit-none, named-says, unnamed-agrees, clash-above, none-contradicts, one-contradicts}
 use Rattle.check_scan.proofs.Reaching.{to-scan-named, to-scan-not}
@@ -172,3 +172,30 @@ module _ {numbers ends : List ℕ} {held : Bool} {f l m : ℕ} {cursors : List �
         sofar-on numbers ends held f l m cursors rest run (s .sofar) (s .of-rest)
         (subst (λ u. contradicts (claim held f l m) (runAt numbers ends u) ≡ false) (s .which) (sym said ∙ (sym ey ∙ t))) rest′ er i w (s .which)
         (cursors-on numbers ends cursors i end f j x w (suc l) inside (s .sofar .ready) (s .here) (omega arith) ew (set cursors i w) refl)
+
+-- ---- a turn of the loop: the number at hand is passed, and one more where that is below f too
+
+module _ {numbers ends : List ℕ} {held : Bool} {f l m : ℕ} {cursors : List ℕ} {rest run i end j x : ℕ}
+    (s : Scan numbers ends held f l m cursors rest run i end j x) (h : x < f) {x′ : ℕ} (e : x′ ≡ headOf (slice numbers (j + 1) end))
+    {n : ℕ} (p : MorePassed x′ f n) where
+  pub turn-more : (j + 1 + n ≤ end) × (end ≤ length numbers)
+  turn-more =
+      ⊎-elim
+      (λ (z : n ≡ 0). let k = scan-more s h in (omega (arith, k .0), k .1))
+      (λ (z : n ≢ 0).
+      let q = p .most in
+      let k = scan-more (scan-on s h e) (p .below (omega arith)) in
+      (omega (arith, k .0), k .1))
+      (eq-or-ne n 0)
+
+  pub turn-on : {x″ : ℕ} → x″ ≡ headOf (slice numbers (j + 1 + n) end) → Scan numbers ends held f l m cursors rest run i end (j + 1 + n) x″
+  turn-on {x″} e″ =
+      ⊎-elim
+      (λ (z : n ≡ 0). at (j + 1) (omega arith) (scan-on s h))
+      (λ (z : n ≢ 0). let q = p .most in at (j + 1 + 1) (omega arith) (scan-on (scan-on s h e) (p .below (omega arith))))
+      (eq-or-ne n 0)
+    where
+      at : (k : ℕ) → j + 1 + n ≡ k → (x″ ≡ headOf (slice numbers k end) → Scan numbers ends held f l m cursors rest run i end k x″)
+          → Scan numbers ends held f l m cursors rest run i end (j + 1 + n) x″
+      at k w g =
+          subst (λ u. Scan numbers ends held f l m cursors rest run i end u x″) (sym w) (g (e″ ∙ ap (λ u. headOf (slice numbers u end)) w))

@@ -1,5 +1,5 @@
 -- The runs that a part takes up, and when one contradicts it. Definitions only.
-use Prim.Native.Nat.{ℕ, _+_, _*_}
+use Prim.Native.Nat.{ℕ, _+_, _*_, _≤_, _<_}
 use mathlib.Core.Bool.{Bool, true, false, not}
 use mathlib.Core.List.{List, [], _∷_}
 use lib.Bits.{bitAnd}
@@ -27,3 +27,8 @@ clash false f l h = leb h l
 unfoldable pub claim : Bool → ℕ → ℕ → ℕ → Part
 claim true f l m = answer f m
 claim false f l m = gap f l m
+
+-- one number more is passed, or none; one only where x is below f
+pub record MorePassed (x f n : ℕ) : Type 0 where
+  pub most : n ≤ 1
+  pub below : 0 < n → x < f

@@ -5,7 +5,7 @@ ghost use lib.ListN.{length};
 ghost use Rattle.model.specs.Refusals.{anyContradicts};
 ghost use Rattle.model.specs.Runs.{runs, mostRuns};
 ghost use Rattle.check_cursor.specs.Cursors.{Cursors};
-ghost use Rattle.check_scan.specs.Scan.{reachedOf, toScan, clash, claim};
+ghost use Rattle.check_scan.specs.Scan.{reachedOf, toScan, clash, claim, MorePassed};
 
 // The runs whose cursor's bin is not above `last`. No other run has an uncovered number up to `last`. No branch depends on a cursor, since which
 // runs have moved cannot be foretold.
@@ -44,6 +44,17 @@ fn clashes(x: u64, first: u32, last: u32, held: bool) -> bool
     x <= last as u64
 }
 
+// How many numbers more, one or none, a run whose next number is `x` passes at once on its way to `first`. A run that a gap names may be behind by several
+// numbers. How many cannot be foretold, so that no branch depends on this one. A run that an answer names seldom is.
+fn more_passed(x: u64, first: u32, held: bool) -> usize
+    ensures { λ r. ⌜ MorePassed x first r ⌝ }
+{
+    if held {
+        return 0;
+    }
+    arith::one_if_below(x, first as u64)
+}
+
 // Whether a run that the mask names contradicts an answer or a gap. A run is scanned from its cursor on to its first number that is not below the part's
 // first bin. The cursor stays there, and never goes back. The number at the cursor is in the cursor, so a number is read only after the one before it is
 // passed. A run that a gap takes up passes at least one number, or contradicts.
@@ -76,6 +87,8 @@ pub fn contradicted(
                 break;
             }
             j += 1;
+            x = check_cursor::number_at(numbers, j, end);
+            j += more_passed(x, first, held);
             x = check_cursor::number_at(numbers, j, end);
         }
         rest = mask::without_lowest(rest);

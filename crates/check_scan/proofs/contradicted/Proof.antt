@@ -8,7 +8,7 @@ use mathlib.Core.Path.{_≡_, sym, _∙_, subst}
 use native.Mathlib.Omega.{arith}
 use Rattle.check_cursor.specs.Cursors.{Cursors}
 use Rattle.check_cursor.proofs.Moving.{bin-fits}
-use Rattle.check_scan.proofs.Scanning.{Sofar, sofar-start, sofar-end, Scan, run-below, scan-start, scan-more, scan-on, scan-fits, scan-found, scan-agrees}
+use Rattle.check_scan.proofs.Scanning.{Sofar, sofar-start, sofar-end, Scan, run-below, scan-start, scan-more, scan-fits, scan-found, scan-agrees, turn-more, turn-on}
 use borrow.Author.Needs.{needs}
 use Rattle.check_scan.proofs.contradicted.Statement.{statement}
 use Rattle.check_scan.proofs.contradicted.Tie as tie
@@ -123,13 +123,31 @@ add-j c =
 number-at-requires : tie.Need-number-at-requires Inv-loop μ-loop Inv-runs μ-runs
 number-at-requires c κs = scan-more (c .before .loop .inv) (c .if1 .left)
 
+more-passed-requires : tie.Need-more-passed-requires Inv-loop μ-loop Inv-runs μ-runs
+more-passed-requires c κs = search needs
+
+add-j-2 : tie.Need-add-j-2 Inv-loop μ-loop Inv-runs μ-runs
+add-j-2 c =
+    let t = c .before .before in
+    let m = turn-more (t .before .loop .inv) (t .if1 .left) (c .before .number-at .ensures) (c .more-passed .ensures) in
+    let k = t .before .loop .inv .sofar .ready .short in
+    omega (arith, m .0, m .1, k)
+
+number-at-requires-2 : tie.Need-number-at-requires-2 Inv-loop μ-loop Inv-runs μ-runs
+number-at-requires-2 c κs =
+    let t = c .before .before in
+    turn-more (t .before .loop .inv) (t .if1 .left) (c .before .number-at .ensures) (c .more-passed .ensures)
+
 loop-less : tie.Need-loop-less Inv-loop μ-loop Inv-runs μ-runs
 loop-less c =
-    let m = scan-more (c .before .before .loop .inv) (c .before .if1 .left) in
+    let t = c .before .before .before in
+    let m = turn-more (t .before .loop .inv) (t .if1 .left) (c .before .before .number-at .ensures) (c .before .more-passed .ensures) in
     omega (arith, m .0)
 
 loop-again : tie.Need-loop-again Inv-loop μ-loop Inv-runs μ-runs
-loop-again c = scan-on (c .before .before .loop .inv) (c .before .if1 .left) (c .number-at .ensures)
+loop-again c =
+    let t = c .before .before .before in
+    turn-on (t .before .loop .inv) (t .if1 .left) (c .before .before .number-at .ensures) (c .before .more-passed .ensures) (c .number-at2 .ensures)
 
 without-lowest-requires : tie.Need-without-lowest-requires Inv-loop μ-loop Inv-runs μ-runs
 without-lowest-requires c κs = search needs
@@ -202,6 +220,9 @@ contradicted-spec =
     slice-write-cursors
     add-j
     number-at-requires
+    more-passed-requires
+    add-j-2
+    number-at-requires-2
     loop-less
     loop-again
     without-lowest-requires
