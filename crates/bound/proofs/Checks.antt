@@ -15,6 +15,7 @@ use Rattle.bound.specs.declared.Bound.the-variants.{Sum, Refused}
 use Rattle.model.specs.Compared.{boundOf}
 use Rattle.bound.specs.Bound.{sumFrom, endChecks, probeBound}
 use Rattle.model.specs.Refusals.{_then_, refuseIf, refuseAt, fallsFrom, lastEnd}
+use Rattle.model.specs.Runs.{mostNumbers, mostRuns}
 
 -- The state at end i: `before` is the end before it and `sum` the sum over the runs passed.
 pub record Summed (ends : List ℕ) (d sum before i : ℕ) : Type 0 where
@@ -48,16 +49,16 @@ pub none-refused : (ends : List ℕ) (d : ℕ) → length ends ≡ 0 → probeBo
 unfolding probeBound endChecks _then_ refuseIf
 none-refused ends d h = rw (eq-eqb (length ends) 0 h, probeBound)
 
-pub many-refused : (ends : List ℕ) (d : ℕ) → 64 < length ends → probeBound ends d ≡ Refused 1 (length ends)
+pub many-refused : (ends : List ℕ) (d : ℕ) → mostRuns < length ends → probeBound ends d ≡ Refused 1 (length ends)
 unfolding probeBound endChecks _then_ refuseIf
-many-refused ends d h = rw (ne-eqb (length ends) 0 (λ e. omega arith), lt-ltb 64 (length ends) h, probeBound)
+many-refused ends d h = rw (ne-eqb (length ends) 0 (λ e. omega arith), lt-ltb mostRuns (length ends) h, probeBound)
 
 -- ends that are neither too few nor too many pass the first check
-pub number-passed : (ends : List ℕ) → 0 < length ends → length ends ≤ 64 → (eqb (length ends) 0 || ltb 64 (length ends)) ≡ false
-number-passed ends h l = rw (ne-eqb (length ends) 0 (λ e. omega arith), le-ltb 64 (length ends) l)
+pub number-passed : (ends : List ℕ) → 0 < length ends → length ends ≤ mostRuns → (eqb (length ends) 0 || ltb mostRuns (length ends)) ≡ false
+number-passed ends h l = rw (ne-eqb (length ends) 0 (λ e. omega arith), le-ltb mostRuns (length ends) l)
 
 -- end i is below the one before
-pub fall-refused : (ends : List ℕ) (d sum before i : ℕ) → Summed ends d sum before i → length ends ≤ 64 → i < length ends → getD ends i 0 < before
+pub fall-refused : (ends : List ℕ) (d sum before i : ℕ) → Summed ends d sum before i → length ends ≤ mostRuns → i < length ends → getD ends i 0 < before
     → probeBound ends d ≡ Refused 3 i
 unfolding probeBound endChecks _then_ refuseIf refuseAt fallsFrom
 fall-refused ends d sum before i s l h b =
@@ -65,7 +66,7 @@ fall-refused ends d sum before i s l h b =
     rw (number-passed ends (omega arith) l, f, probeBound)
 
 -- every end has been passed
-module _ (ends : List ℕ) (d sum before i : ℕ) (s : Summed ends d sum before i) (some-ends : 0 < length ends) (few : length ends ≤ 64)
+module _ (ends : List ℕ) (d sum before i : ℕ) (s : Summed ends d sum before i) (some-ends : 0 < length ends) (few : length ends ≤ mostRuns)
     (done : length ends ≤ i) where
   none-fell : fallsFrom 0 0 ends ≡ none
   unfolding fallsFrom
@@ -79,10 +80,10 @@ module _ (ends : List ℕ) (d sum before i : ℕ) (s : Summed ends d sum before 
   unfolding sumFrom
   sum-is = let r = rw (drop-of-length-le ends done) at (s .rest) in omega arith
 
-  pub last-refused : 1048576 < before → probeBound ends d ≡ Refused 3 (length ends)
+  pub last-refused : mostNumbers < before → probeBound ends d ≡ Refused 3 (length ends)
   unfolding probeBound endChecks _then_ refuseIf refuseAt
-  last-refused h = rw (number-passed ends some-ends few, none-fell, last-is, lt-ltb 1048576 before h, probeBound)
+  last-refused h = rw (number-passed ends some-ends few, none-fell, last-is, lt-ltb mostNumbers before h, probeBound)
 
-  pub sum-returned : before ≤ 1048576 → probeBound ends d ≡ Sum sum
+  pub sum-returned : before ≤ mostNumbers → probeBound ends d ≡ Sum sum
   unfolding probeBound endChecks _then_ refuseIf refuseAt
-  sum-returned h = rw (number-passed ends some-ends few, none-fell, last-is, le-ltb 1048576 before h, sum-is, probeBound)
+  sum-returned h = rw (number-passed ends some-ends few, none-fell, last-is, le-ltb mostNumbers before h, sum-is, probeBound)

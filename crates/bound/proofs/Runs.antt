@@ -1,10 +1,9 @@
 -- Where the first checks pass, each end is at most the number of the numbers, so a run is as long as its ends say: the sum from the ends is the sum of
 -- the bounds over the runs, and the call returns it. Assumes nothing.
-use Prim.Native.Nat.{ℕ, suc, _-_, _≤_, _<_}
-use borrow.Author.Tests.{lt-ltb, le-ltb}
+use Prim.Native.Nat.{ℕ, suc, _-_, _≤_}
+use borrow.Author.Tests.{le-ltb}
 use lib.ListN.{length, take, drop, length-take, length-drop}
 use mathlib.Core.List.{List, [], _∷_}
-use mathlib.Core.Logic.{⊎-elim}
 use mathlib.Core.Option.{none, some}
 use mathlib.Core.Path.{_≡_, refl, ap}
 use native.Mathlib.Omega.{arith}
@@ -14,7 +13,7 @@ use Rattle.bound.specs.Bound.{sumFrom, endChecks, probeBound}
 use Rattle.bound.proofs.Checks.{number-passed}
 use Rattle.model.proofs.FirstChecks.{first-passed, not-fallen, end-last}
 use Rattle.model.specs.Refusals.{passed, _then_, refuseIf, refuseAt, fallsFrom, lastEnd, firstChecks}
-use Rattle.model.specs.Runs.{total, runsFrom, runs}
+use Rattle.model.specs.Runs.{mostNumbers, total, runsFrom, runs}
 
 sum-from : (d i j a : ℕ) (numbers ends : List ℕ) → fallsFrom a i ends ≡ none → lastEnd a ends ≤ length numbers
     → sumFrom d a ends ≡ bound d (runsFrom j a numbers ends)
@@ -38,6 +37,6 @@ pub bound-passed : (d t : ℕ) (numbers ends : List ℕ) → firstChecks numbers
 unfolding probeBound endChecks _then_ refuseIf refuseAt
 bound-passed d t numbers ends h =
     let p = first-passed numbers ends t h in
-    let l : lastEnd 0 ends ≤ 1048576 = omega arith in
-    rw (number-passed ends (p .some-runs) (p .few-runs), p .ends-rise, le-ltb 1048576 (lastEnd 0 ends) l, probeBound)
+    let l : lastEnd 0 ends ≤ mostNumbers = omega arith in
+    rw (number-passed ends (p .some-runs) (p .few-runs), p .ends-rise, le-ltb mostNumbers (lastEnd 0 ends) l, probeBound)
     (ap Sum (sum-bound d t numbers ends h))

@@ -15,8 +15,8 @@ unfoldable pub sumFrom : ℕ → ℕ → List ℕ → ℕ
 sumFrom d a [] = 0
 sumFrom d a (e ∷ ends) = boundOf d (e - a) + sumFrom d e ends
 
--- The first checks on the ends, k in number: 1 at place k, if k is 0 or above 64; 3 at the index of the first end below the one before; else 3 at
--- place k, if the last end is above 1048576.
+-- The first checks on the ends, k in number: 1 at place k, if k is 0 or above mostRuns; 3 at the index of the first end below the one before; else 3 at
+-- place k, if the last end is above mostNumbers.
 unfoldable pub endChecks : List ℕ → Check
 endChecks ends =
     refuseIf (eqb (length ends) 0 || ltb mostRuns (length ends)) 1 (length ends) then

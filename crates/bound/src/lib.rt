@@ -3,9 +3,8 @@ ghost use mathlib.Core.Path.{_≡_};
 ghost use Rattle.model.specs.Compared.{digits, boundOf};
 ghost use Rattle.bound.specs.Bound.{probeBound};
 
-const MOST_RUNS: usize = 64;
-
-const MOST_NUMBERS: u32 = 1048576;
+// The bits of a 32-bit number.
+const WORD_BITS: u32 = 32;
 
 // The sum of the bounds over the runs, or a refusal with its number and place.
 pub enum Bound {
@@ -17,7 +16,7 @@ pub enum Bound {
 pub fn digits_of(n: u32) -> u32
     ensures { λ r. ⌜ r ≡ digits n ⌝ }
 {
-    32 - u32::leading_zeros(n)
+    WORD_BITS - u32::leading_zeros(n)
 }
 
 // The bound for one run of `n` numbers beside a certificate of `parts` parts.
@@ -38,7 +37,7 @@ pub fn probe_bound(ends: &[u32], parts: u32) -> Bound
             place: k,
         };
     }
-    if MOST_RUNS < k {
+    if limits::MOST_RUNS < k {
         return Bound::Refused {
             number: 1,
             place: k,
@@ -57,7 +56,7 @@ pub fn probe_bound(ends: &[u32], parts: u32) -> Bound
         sum += bound_of(parts, end - before);
         before = end;
     }
-    if MOST_NUMBERS < before {
+    if limits::MOST_NUMBERS < arith::usize_of_u32(before) {
         return Bound::Refused {
             number: 3,
             place: k,

@@ -2,22 +2,22 @@
 use Prim.Native.Nat.{ℕ, _+_, _-_, _*_, _/_, _%_, _<_}
 use mathlib.Core.Path.{_≡_, refl}
 use native.Mathlib.Omega.{arith}
-use Rattle.check_cursor.specs.Cursors.{placeOf, binOf}
+use Rattle.check_cursor.specs.Cursors.{cursorPlaces, placeOf, binOf}
 
 -- ---- a cursor
 
-pub place-at : (b p c : ℕ) → p < 2097152 → c ≡ b * 2097152 + p → placeOf c ≡ p
+pub place-at : (b p c : ℕ) → p < cursorPlaces → c ≡ b * cursorPlaces + p → placeOf c ≡ p
 unfolding placeOf
 place-at b p c h e = omega arith
 
-pub bin-at : (b p c : ℕ) → p < 2097152 → c ≡ b * 2097152 + p → binOf c ≡ b
+pub bin-at : (b p c : ℕ) → p < cursorPlaces → c ≡ b * cursorPlaces + p → binOf c ≡ b
 unfolding binOf
 bin-at b p c h e = omega arith
 
-pub place-is : (c : ℕ) → c % 2097152 ≡ placeOf c
+pub place-is : (c : ℕ) → c % cursorPlaces ≡ placeOf c
 unfolding placeOf
 place-is c = refl
 
-pub bin-is : (c : ℕ) → c / 2097152 ≡ binOf c
+pub bin-is : (c : ℕ) → c / cursorPlaces ≡ binOf c
 unfolding binOf
 bin-is c = refl

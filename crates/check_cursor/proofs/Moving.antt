@@ -1,4 +1,4 @@
--- A run scanned from its cursor on, over the numbers below a bin, and what its first number from the bin on says of an answer or a gap. Assumes nothing.
+-- A run scanned from its cursor on, over the numbers below a bin, and its cursor put where the scan stopped. Assumes nothing.
 use Prim.Native.Nat.{ℕ, suc, _+_, _≤_, _<_}
 use lib.ListN.{length, getD, set, length-set}
 use lib.Seq.{getD-set-same, getD-set-other}
@@ -175,6 +175,5 @@ module _ (numbers ends cursors : List ℕ) (i end first j x w b : ℕ) (l : i < 
       other n q ps r = ap (λ y. getD y n 0) r ∙ getD-set-other cursors i n w 0 q
 
 -- the first number from a bin on, or the number after the last bin, fits a cursor
-pub head-fits : (numbers ends cursors : List ℕ) (i first b : ℕ) → i < length ends → Cursors numbers ends cursors b → headIn numbers ends i first ≤ 4294967296
-unfolding pastBin
+pub head-fits : (numbers ends cursors : List ℕ) (i first b : ℕ) → i < length ends → Cursors numbers ends cursors b → headIn numbers ends i first ≤ pastBin
 head-fits numbers ends cursors i first b l c = head-bin (rise-from first (binsOf numbers ends i) (c .risen i l))

@@ -16,7 +16,7 @@ use Rattle.model.specs.Demands.{Fits}
 use Rattle.model.specs.Refusals.{passed, firstChecks}
 use Rattle.model.specs.Runs.{pastBin, runs, runsFrom, slice}
 use Rattle.model.specs.Walk.{headOf}
-use Rattle.check_cursor.specs.Cursors.{startOf, binsOf, placeOf, binOf, Cursors, Begins}
+use Rattle.check_cursor.specs.Cursors.{startOf, binsOf, cursorPlaces, placeOf, binOf, Cursors, Begins}
 
 -- the cursors of the runs before i are placed
 pub record Placed (numbers ends cursors : List ℕ) (start i : ℕ) : Type 0 where
@@ -41,8 +41,7 @@ module _ {numbers ends cursors₀ cursors : List ℕ} {start i : ℕ} (b : Begin
       first-is : x ≡ headOf (binsOf numbers ends i)
       first-is = ex ∙ (λ s. headOf (slice numbers (p .next s) (ee s)))
 
-      pub start-fits : (x ≤ 4294967296) × (start < 2097152)
-      unfolding pastBin
+      pub start-fits : (x ≤ pastBin) × (start < cursorPlaces)
       start-fits =
           let s = start-inside in
           let m = b .short in

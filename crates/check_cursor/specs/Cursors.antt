@@ -22,11 +22,14 @@ abbrev pub headIn : List ℕ → List ℕ → ℕ → ℕ → ℕ
 headIn numbers ends i v = headOf (from v (binsOf numbers ends i))
 
 -- A cursor is a bin × 2097152 + a place. (There are at most 1048576 numbers.)
+abbrev pub cursorPlaces : ℕ
+cursorPlaces = 2097152
+
 unfoldable pub placeOf : ℕ → ℕ
-placeOf c = c % 2097152
+placeOf c = c % cursorPlaces
 
 unfoldable pub binOf : ℕ → ℕ
-binOf c = c / 2097152
+binOf c = c / cursorPlaces
 
 -- Runs that rise, one after another, and for each a cursor in it: from its place on a run has the same numbers from any bin not below b on. The cursor's bin
 -- is the number at its place, or at the run's end the number after the last bin.

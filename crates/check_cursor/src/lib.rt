@@ -2,29 +2,32 @@
 ghost use mathlib.Core.Path.{_≡_};
 ghost use Prim.Native.Nat.{_≤_, _<_};
 ghost use lib.ListN.{length};
-ghost use Rattle.model.specs.Runs.{slice};
+ghost use Rattle.model.specs.Runs.{slice, pastBin};
 ghost use Rattle.model.specs.Walk.{headOf};
-ghost use Rattle.check_cursor.specs.Cursors.{placeOf, binOf, Cursors, Begins};
+ghost use Rattle.check_cursor.specs.Cursors.{cursorPlaces, placeOf, binOf, Cursors, Begins};
 
-// A cursor of a run: a bin × 2097152 + a place. The run has no number that is still uncovered before the place, and the bin is the number at the place, or
+// A cursor has room for so many places; there are at most half as many numbers.
+pub const PLACES: u64 = 2097152;
+
+// A cursor of a run: a bin × PLACES + a place. The run has no number that is still uncovered before the place, and the bin is the number at the place, or
 // the number after the last bin at the run's end.
 pub fn cursor_at(bin: u64, place: usize) -> u64
-    requires { ⌜ (bin ≤ 4294967296) × (place < 2097152) ⌝ }
+    requires { ⌜ (bin ≤ pastBin) × (place < cursorPlaces) ⌝ }
     ensures { λ r. ⌜ (placeOf r ≡ place) × (binOf r ≡ bin) ⌝ }
 {
-    bin * 2097152 + place as u64
+    bin * PLACES + place as u64
 }
 
 pub fn place_of(cursor: u64) -> usize
     ensures { λ r. ⌜ r ≡ placeOf cursor ⌝ }
 {
-    (cursor % 2097152) as usize
+    (cursor % PLACES) as usize
 }
 
 pub fn bin_of(cursor: u64) -> u64
     ensures { λ r. ⌜ r ≡ binOf cursor ⌝ }
 {
-    cursor / 2097152
+    cursor / PLACES
 }
 
 // The number at a place of a run that ends at `end`, or the number after the last bin at its end.
@@ -35,7 +38,7 @@ pub fn number_at(numbers: &[u32], place: usize, end: usize) -> u64
     if place < end {
         return arith::u64_of_u32(numbers[place]);
     }
-    4294967296
+    limits::PAST_BIN
 }
 
 // Puts each run's cursor at its first number.

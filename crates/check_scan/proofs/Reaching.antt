@@ -1,31 +1,32 @@
--- A cursor as one number, the runs that may have a number up to a bin, and the bin from which on a run's numbers matter. Assumes nothing.
+-- The runs whose cursor's bin is not above a bin, and the runs that a part takes up. Assumes nothing.
 use Prim.Native.Nat.{ℕ, zero, suc, _+_, _-_, _*_, _/_, _^_, _≤_, _<_}
-use borrow.Author.Tests.{eq-eqb, ne-eqb, leb-false, le-leb, lt-leb, le-ltb, lt-ltb}
-use lib.Dec.{leb, ltb, eqb}
+use borrow.Author.Tests.{leb-false, le-leb, lt-leb, le-ltb, lt-ltb}
+use lib.Bits.{bitAnd}
+use lib.Dec.{leb, ltb}
 use lib.ListN.{length, getD, drop, length-drop, drop-of-length-le}
 use lib.Pow.{pow-mono}
 use lib.Seq.{drop-cons}
 use mathlib.Core.Bool.{Bool, true, false}
 use mathlib.Core.List.{List, [], _∷_}
-use mathlib.Core.Logic.{⊎-elim, _≢_}
+use mathlib.Core.Logic.{⊎-elim}
 use mathlib.Core.Path.{_≡_, refl, sym, ap, _∙_}
 use native.Mathlib.Nat.{pow-suc}
-use native.Mathlib.Numerals.{add-one}
 use native.Mathlib.Omega.{arith}
 use Rattle.mask.proofs.Lowest.{bit-zero, bit-half}
-use Rattle.model.proofs.Masks.{below-only}
+use Rattle.mask.proofs.Mask.{bit-and}
+use Rattle.model.proofs.Masks.{bit-small}
 use Rattle.model.proofs.Tests.{both, lt-or-le}
 use Rattle.model.specs.Runs.{bit, one}
-use Rattle.check_cursor.specs.Cursors.{binOf}
-use Rattle.check_scan.specs.Scan.{reachedOf, toScan, scanFrom}
+use Rattle.check_cursor.specs.Cursors.{cursorPlaces, binOf}
+use Rattle.check_scan.specs.Scan.{reachedOf, toScan}
 
 -- a cursor's bin is not above l where the cursor is below the first one whose bin is
-pub bin-below : (c l m : ℕ) → m ≡ (l + 1) * 2097152 → one (ltb c m) ≡ one (leb (binOf c) l)
+pub bin-below : (c l m : ℕ) → m ≡ (l + 1) * cursorPlaces → one (ltb c m) ≡ one (leb (binOf c) l)
 unfolding binOf
 bin-below c l m e =
     ⊎-elim
-    (λ (h : c < m). ap one (lt-ltb c m h ∙ sym (le-leb (c / 2097152) l (omega arith))))
-    (λ (h : m ≤ c). ap one (le-ltb c m h ∙ sym (lt-leb (c / 2097152) l (omega arith))))
+    (λ (h : c < m). ap one (lt-ltb c m h ∙ sym (le-leb (c / cursorPlaces) l (omega arith))))
+    (λ (h : m ≤ c). ap one (le-ltb c m h ∙ sym (lt-leb (c / cursorPlaces) l (omega arith))))
     (lt-or-le c m)
 
 -- ---- the runs reached
@@ -90,21 +91,19 @@ unfolding toScan
 to-scan-held true l m s e = refl
 to-scan-held false l m s e = Rattle.model.proofs.Tests.true-false e refl
 
-pub to-scan-gap : (held : Bool) (l m r : ℕ) (s : List ℕ) → held ≡ false → r ≡ reachedOf l s → r ≡ toScan held l m s
+pub to-scan-gap : (held : Bool) (l m r : ℕ) (s : List ℕ) → held ≡ false → r ≡ reachedOf l s → bitAnd m r ≡ toScan held l m s
 unfolding toScan
 to-scan-gap true l m r s e f = Rattle.model.proofs.Tests.true-false refl e
-to-scan-gap false l m r s e f = f
+to-scan-gap false l m r s e f = ap (bitAnd m) f
 
-pub to-scan-below : (held : Bool) (l m : ℕ) (s : List ℕ) (i : ℕ) → m < 2 ^ length s → bit (toScan held l m s) i ≡ 1 → i < length s
+-- a run that is taken up is named
+pub to-scan-named : (held : Bool) (l m : ℕ) (s : List ℕ) (i : ℕ) → bit (toScan held l m s) i ≡ 1 → bit m i ≡ 1
 unfolding toScan
-to-scan-below true l m s i h e = below-only m (length s) i h e
-to-scan-below false l m s i h e = below-only (reachedOf l s) (length s) i (reached-lt l s) e
-
--- a run that is taken up and not named is so for a gap
-pub to-scan-unnamed : (held : Bool) (l m : ℕ) (s : List ℕ) (i : ℕ) → bit (toScan held l m s) i ≡ 1 → bit m i ≢ 1 → held ≡ false
-unfolding toScan
-to-scan-unnamed true l m s i e n = absurd (n e)
-to-scan-unnamed false l m s i e n = refl
+to-scan-named true l m s i e = e
+to-scan-named false l m s i e =
+    let a = bit-and m (reachedOf l s) i in
+    let b = bit-small m i in
+    omega arith
 
 unreached : (x y : ℕ) → one (leb x y) ≡ 0 → y < x
 unfolding one
@@ -119,30 +118,7 @@ pub to-scan-not : (held : Bool) (l m : ℕ) (s : List ℕ) (i : ℕ) → i < len
     → (held ≡ false) × (l < binOf (getD s i 0))
 unfolding toScan
 to-scan-not true l m s i h e n = absurd (omega arith)
-to-scan-not false l m s i h e n = (refl, unreached (binOf (getD s i 0)) l (sym (reached-bit l s i h) ∙ e))
-
--- ---- the bin from which on a run's numbers matter
-
-pub from-first : (y z : Bool) (f l : ℕ) → y ≡ z → y ≡ true → f ≡ scanFrom z f l
-unfolding scanFrom
-from-first y true f l e t = refl
-from-first y false f l e t = Rattle.model.proofs.Tests.true-false t e
-
-pub from-past : (y z : Bool) (f l : ℕ) → y ≡ z → y ≡ false → l + 1 ≡ scanFrom z f l
-unfolding scanFrom
-from-past y true f l e t = Rattle.model.proofs.Tests.true-false e t
-from-past y false f l e t = add-one l
-
-pub from-named : (x f l : ℕ) → x ≡ 1 → scanFrom (eqb x 1) f l ≡ f
-unfolding scanFrom
-from-named x f l e = rw (eq-eqb x 1 e)
-
-pub from-unnamed : (x f l : ℕ) → x ≢ 1 → scanFrom (eqb x 1) f l ≡ suc l
-unfolding scanFrom
-from-unnamed x f l n = rw (ne-eqb x 1 n)
-
--- it is not below the part's first bin, nor after the one after its last
-pub from-between : (y : Bool) (f l b : ℕ) → b ≡ scanFrom y f l → f ≤ l → (f ≤ b) × (b ≤ suc l)
-unfolding scanFrom
-from-between true f l b e h = (omega arith, omega arith)
-from-between false f l b e h = (omega arith, omega arith)
+to-scan-not false l m s i h e n =
+    let a = bit-and m (reachedOf l s) i in
+    let b : bit (reachedOf l s) i ≡ 0 = omega arith in
+    (refl, unreached (binOf (getD s i 0)) l (sym (reached-bit l s i h) ∙ b))

@@ -1,12 +1,11 @@
 // Whether a run that a part names contradicts it: the runs are scanned from their cursors on.
 ghost use mathlib.Core.Path.{_≡_};
 ghost use Prim.Native.Nat.{suc, _^_, _≤_, _<_};
-ghost use lib.Dec.{eqb};
 ghost use lib.ListN.{length};
 ghost use Rattle.model.specs.Refusals.{anyContradicts};
-ghost use Rattle.model.specs.Runs.{runs, bit, mostRuns, maskBits};
+ghost use Rattle.model.specs.Runs.{runs, mostRuns};
 ghost use Rattle.check_cursor.specs.Cursors.{Cursors};
-ghost use Rattle.check_scan.specs.Scan.{reachedOf, toScan, scanFrom, clash, claim};
+ghost use Rattle.check_scan.specs.Scan.{reachedOf, toScan, clash, claim, MorePassed};
 
 // The runs whose cursor's bin is not above `last`. No other run has an uncovered number up to `last`. No branch depends on a cursor, since which
 // runs have moved cannot be foretold.
@@ -14,7 +13,7 @@ fn reached(cursors: &[u64], last: u32) -> u64
     requires { ⌜ length (now cursors) ≤ mostRuns ⌝ }
     ensures { λ r. ⌜ r ≡ reachedOf last (now (cursors .entry)) ⌝ }
 {
-    let limit = (last as u64 + 1) * 2097152;
+    let limit = (last as u64 + 1) * check_cursor::PLACES;
     let mut mask: u64 = 0;
     let mut i = cursors.len();
     while 0 < i {
@@ -24,7 +23,7 @@ fn reached(cursors: &[u64], last: u32) -> u64
     mask
 }
 
-// The runs to take up: those that an answer names, and those that may have an uncovered number up to a gap's last bin.
+// The runs to take up: those that the mask names, and for a gap only those of them that may have an uncovered number up to its last bin.
 fn to_scan(cursors: &[u64], last: u32, mask: u64, held: bool) -> u64
     requires { ⌜ length (now cursors) ≤ mostRuns ⌝ }
     ensures { λ r. ⌜ r ≡ toScan held last mask (now (cursors .entry)) ⌝ }
@@ -32,7 +31,7 @@ fn to_scan(cursors: &[u64], last: u32, mask: u64, held: bool) -> u64
     if held {
         return mask;
     }
-    reached(cursors, last)
+    mask & reached(cursors, last)
 }
 
 // Whether a run whose first number from `first` on is `x` contradicts an answer `first`, or else a gap from `first` to `last`.
@@ -45,20 +44,20 @@ fn clashes(x: u64, first: u32, last: u32, held: bool) -> bool
     x <= last as u64
 }
 
-// The bin from which on a run's numbers matter: the part's first where the mask names the run, and the one after its last otherwise.
-fn scan_from(mask: u64, run: u32, first: u32, last: u32) -> u64
-    requires { ⌜ run < maskBits ⌝ }
-    ensures { λ r. ⌜ r ≡ scanFrom (eqb (bit mask run) 1) first last ⌝ }
+// How many numbers more, one or none, a run whose next number is `x` passes at once on its way to `first`. A run that a gap names may be behind by several
+// numbers. How many cannot be foretold, so that no branch depends on this one. A run that an answer names seldom is.
+fn more_passed(x: u64, first: u32, held: bool) -> usize
+    ensures { λ r. ⌜ MorePassed x first r ⌝ }
 {
-    if mask::names_run(mask, run) {
-        return first as u64;
+    if held {
+        return 0;
     }
-    last as u64 + 1
+    arith::one_if_below(x, first as u64)
 }
 
-// Whether a run that the mask names contradicts an answer or a gap. A run is scanned from its cursor on to its first number that matters. The cursor stays
-// there, and never goes back. The number at the cursor is in the cursor, so a number is read only after the one before it is passed. A run that a gap
-// reaches passes at least one number, or contradicts: one that it does not name is scanned past the gap, where it cannot contradict.
+// Whether a run that the mask names contradicts an answer or a gap. A run is scanned from its cursor on to its first number that is not below the part's
+// first bin. The cursor stays there, and never goes back. The number at the cursor is in the cursor, so a number is read only after the one before it is
+// passed. A run that a gap takes up passes at least one number, or contradicts.
 pub fn contradicted(
     numbers: &[u32],
     ends: &[u32],
@@ -75,13 +74,12 @@ pub fn contradicted(
     let mut rest = to_scan(cursors, last, mask, held);
     'runs: while rest != 0 {
         let run = mask::lowest_run(rest);
-        let from = scan_from(mask, run, first, last);
         let i = arith::usize_of_u32(run);
         let end = arith::usize_of_u32(ends[i]);
         let mut j = check_cursor::place_of(cursors[i]);
         let mut x = check_cursor::bin_of(cursors[i]);
         loop {
-            if from <= x {
+            if first as u64 <= x {
                 if clashes(x, first, last, held) {
                     break 'runs;
                 }
@@ -89,6 +87,8 @@ pub fn contradicted(
                 break;
             }
             j += 1;
+            x = check_cursor::number_at(numbers, j, end);
+            j += more_passed(x, first, held);
             x = check_cursor::number_at(numbers, j, end);
         }
         rest = mask::without_lowest(rest);

@@ -2,7 +2,7 @@
 use Prim.Native.Nat.{ℕ, _≤_}
 use lib.ListN.{length}
 use mathlib.Core.List.{List}
-use mathlib.Core.Path.{_≡_, refl, sym, ap, _∙_, subst}
+use mathlib.Core.Path.{_≡_, sym, _∙_, subst}
 use Rattle.model.proofs.Checking.{accepts}
 use Rattle.model.proofs.FirstChecks.{first-passed}
 use Rattle.model.specs.Demands.{Fits, Accepts}

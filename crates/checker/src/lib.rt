@@ -73,7 +73,7 @@ fn check_parts(
         parts += 1;
         at = next;
     }
-    if bin == 4294967296 {
+    if bin == limits::PAST_BIN {
         return Verdict::Valid {
             answers: answers,
             parts: parts,
@@ -117,7 +117,7 @@ pub fn check(numbers: &[u32], ends: &[u32], threshold: u32, certificate: &[u8]) 
             place: place,
         };
     }
-    let mut cursors = [0u64; 64];
+    let mut cursors = [0u64; limits::MOST_RUNS];
     let k = ends.len();
     check_all(
         numbers,

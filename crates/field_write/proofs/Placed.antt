@@ -1,13 +1,11 @@
--- Bytes placed in a buffer: what a run of stores leaves; the length stays; bytes placed after bytes, and after what was written at the front.
--- Assumes nothing.
+-- Bytes placed in a buffer: what a row of stores leaves; the length stays; bytes placed after bytes. Assumes nothing.
 use Prim.Native.Nat.{ℕ, suc, _+_, _≤_}
-use lib.ListN.{length, drop, set, length-append, length-drop}
-use lib.Seq.{sets, sets-eq, length-sets, take-append-seam, drop-append-add, drop-drop}
+use lib.ListN.{length, set, length-append}
+use lib.Seq.{sets, sets-eq, length-sets}
 use mathlib.Core.List.{List, [], _∷_, _++_}
 use mathlib.Core.Path.{_≡_}
 use native.Mathlib.Nat.{add-zero}
 use native.Mathlib.Omega.{arith}
-use Rattle.model.specs.Refusals.{over}
 use Rattle.field_write.specs.Stored.{placed}
 
 pub placed-sets : (vs l : List ℕ) (at : ℕ) → at + length vs ≤ length l → sets l at vs ≡ placed l at vs
@@ -32,12 +30,3 @@ placed-then l {l₁} {l₂} xs ys at next p q e h =
     rw (q, p)
     (rw (← placed-sets ys (placed l at xs) next (omega arith), ← placed-sets xs l at i, ← placed-sets (xs ++ ys) l at (omega arith), ← e)
     (sets-append xs ys l at))
-
-pub over-length : (written l : List ℕ) → length written ≤ length l → length (over written l) ≡ length l
-unfolding over
-over-length written l h = omega (arith, length-append written (drop (length written) l), length-drop (length written) l)
-
--- bytes placed right after what was written at the front
-pub placed-over : (written vs l : List ℕ) → placed (over written l) (length written) vs ≡ over (written ++ vs) l
-unfolding placed over
-placed-over written vs l = rw (take-append-seam, drop-append-add, drop-drop, length-append)

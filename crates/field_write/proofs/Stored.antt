@@ -1,5 +1,5 @@
--- A part's field stored in a buffer: the two cases of `stored` and `storedResult`; the length stays; and a part stored after what was written at the
--- front. A field is stored by its head and then its numbers. Assumes nothing.
+-- A part's field stored in a buffer: the two cases of `stored` and `storedResult`; the length stays. A field is stored by its head and then its numbers.
+-- Assumes nothing.
 use Prim.Native.Nat.{ℕ, _+_, _≤_, _<_}
 use borrow.Author.Tests.{le-leb, lt-leb}
 use lib.ListN.{length}

@@ -1,4 +1,4 @@
--- What the enums of the first checks mean: a place or none, and document 01's number and place.
+-- What the code's answer means: passed, or document 01's number and place. Definitions only.
 use Rattle.model.specs.Refusals.{Check, passed, refusal}
 use Rattle.first_checks.specs.declared.Checked.{Checked}
 use Rattle.first_checks.specs.declared.Checked.the-variants.{Passed, Refused}

@@ -9,7 +9,7 @@ use mathlib.Core.Path.{_≡_, sym, ap, _∙_}
 use native.Mathlib.Nat.{div-one, mod-lt, suc-mul}
 use native.Mathlib.Omega.{arith}
 use Rattle.mask.specs.Mask.{Lowest, LowestGone}
-use Rattle.mask.proofs.Mask.{bit-above, bit-kept, with-new}
+use Rattle.mask.proofs.Mask.{bit-above, bit-added}
 use Rattle.model.proofs.Masks.{bit-of}
 use Rattle.model.proofs.Tests.{lt-or-le, eq-or-ne}
 use Rattle.model.specs.Runs.{bit}
@@ -87,7 +87,7 @@ cleared-here m r i e f =
 
 pub cleared-other : (m r i j : ℕ) → bit m i ≡ 1 → r + 2 ^ i ≡ m → j ≢ i → bit r j ≡ bit m j
 cleared-other m r i j e f n =
-    sym (bit-kept r j i n) ∙ ap (λ (x : ℕ). bit x j) (with-new r i (cleared-here m r i e f) ∙ f)
+    sym (bit-added r j i (cleared-here m r i e f) n) ∙ ap (λ (x : ℕ). bit x j) f
 
 -- ---- a mask without its lowest run
 

@@ -1,13 +1,12 @@
--- The bits of a mask after run j's is set: bit j is 1 and the others stay. Where bit j was 0 the mask grows by 2 ^ j, and it keeps within a width that
--- holds j. Stated over the run and the width. Assumes nothing.
-use Prim.Native.Nat.{ℕ, suc, _+_, _-_, _*_, _/_, _%_, _^_, _≤_, _<_, max}
-use lib.Bits.{bitAnd, bitOr, or-step, or-shr, or-lt, or-disjoint, and-block, and-mask, and-zero-r}
+-- A run's own mask, the bits of two masks together, and a mask with a run's bit set: its other bits stay, and where the bit was 0 the mask grows by 2 to the power of the run.
+-- Stated over the run and the width. Assumes nothing.
+use Prim.Native.Nat.{ℕ, suc, _+_, _-_, _*_, _/_, _%_, _^_, _≤_, _<_, min, max}
+use lib.Bits.{bitAnd, bitOr, and-step, and-shr, or-step, or-shr, or-disjoint, and-block, and-mask, and-zero-r}
 use lib.Pow.{pow-pos, pow-lt, pow-add, shl-shr, split}
 use mathlib.Core.Logic.{_≢_, ⊎-elim}
 use mathlib.Core.Path.{_≡_, sym, ap, _∙_}
-use native.Mathlib.Nat.{div-eq-of-lt, div-self, mod-lt, mod-eq-of-lt}
+use native.Mathlib.Nat.{div-eq-of-lt, mod-lt, mod-eq-of-lt}
 use native.Mathlib.Omega.{arith}
-use Rattle.mask.specs.Mask.{withRun}
 use Rattle.model.proofs.Masks.{bit-of}
 use Rattle.model.proofs.Tests.{lt-or-le}
 use Rattle.model.specs.Runs.{bit}
@@ -19,6 +18,11 @@ one-shifted w i h = let e : 1 * 2 ^ i ≡ 2 ^ i = omega arith in rw e (mod-eq-of
 -- a mask below 2 ^ i does not name run i
 pub bit-above : (m i : ℕ) → m < 2 ^ i → bit m i ≡ 0
 bit-above m i h = bit-of m i ∙ rw (div-eq-of-lt h)
+
+-- a run is in both masks, or in one of the two
+pub bit-and : (m n i : ℕ) → bit (bitAnd m n) i ≡ min (bit m i) (bit n i)
+unfolding bit
+bit-and m n i = let e = and-step (m / 2 ^ i) (n / 2 ^ i) in rw (and-shr m n i) (omega arith)
 
 bit-or : (m n i : ℕ) → bit (bitOr m n) i ≡ max (bit m i) (bit n i)
 unfolding bit
@@ -35,19 +39,22 @@ bit-other i j h =
     (λ (l : j ≤ i). bit-above (2 ^ j) i (pow-lt (omega arith)))
     (lt-or-le i j)
 
-pub bit-kept : (m i j : ℕ) → i ≢ j → bit (withRun m j) i ≡ bit m i
-unfolding withRun
+bit-kept : (m i j : ℕ) → i ≢ j → bit (bitOr m (2 ^ j)) i ≡ bit m i
 bit-kept m i j h =
     let e = bit-or m (2 ^ j) i in
     let s = bit-other i j h in
     omega arith
 
 -- a run that was not named adds its power of 2
-pub with-new : (m i : ℕ) → bit m i ≡ 0 → withRun m i ≡ m + 2 ^ i
-unfolding withRun bit
-with-new m i h =
+or-new : (m i : ℕ) → bit m i ≡ 0 → bitOr m (2 ^ i) ≡ m + 2 ^ i
+unfolding bit
+or-new m i h =
     let one : 1 * 2 ^ i + 0 ≡ 2 ^ i = omega arith in
     let a = and-block i (m / 2 ^ i) 1 (m % 2 ^ i) 0 (mod-lt m (pow-pos i)) (pow-pos i) in
     let b : bitAnd (m / 2 ^ i) 1 ≡ 0 = and-mask (m / 2 ^ i) 1 ∙ h in
     let d = rw (split m i, one, b, and-zero-r) at a in
     or-disjoint m (2 ^ i) (d ∙ omega arith)
+
+-- and leaves the other bits
+pub bit-added : (m i j : ℕ) → bit m j ≡ 0 → i ≢ j → bit (m + 2 ^ j) i ≡ bit m i
+bit-added m i j h n = ap (λ (x : ℕ). bit x i) (sym (or-new m j h)) ∙ bit-kept m i j n

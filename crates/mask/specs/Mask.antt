@@ -1,12 +1,7 @@
--- A mask with a run's bit set, and the lowest and the highest run of a mask. Definitions only.
+-- The lowest and the highest run of a mask. Definitions only.
 use Prim.Native.Nat.{ℕ, _+_, _^_, _<_}
-use lib.Bits.{bitOr}
 use mathlib.Core.Path.{_≡_}
 use Rattle.model.specs.Runs.{bit, maskBits}
-
--- the mask that names what m names, and run i
-unfoldable pub withRun : ℕ → ℕ → ℕ
-withRun m i = bitOr m (2 ^ i)
 
 -- r is the lowest run that m names
 pub record Lowest (m r : ℕ) : Type 0 where

@@ -4,22 +4,17 @@ ghost use Prim.Native.Nat.{_+_, _-_, _/_, _^_, _≤_, _<_};
 ghost use lib.Count.{ones};
 ghost use lib.Dec.{eqb};
 ghost use Rattle.model.specs.Runs.{bit, maskBits};
-ghost use Rattle.mask.specs.Mask.{withRun, Lowest, LowestGone, Highest};
+ghost use Rattle.mask.specs.Mask.{Lowest, LowestGone, Highest};
 
-// The mask that names `run` too.
-pub fn with_run(mask: u64, run: u32) -> u64
-    requires { ⌜ run < maskBits ⌝ }
-    ensures { λ r. ⌜ r ≡ withRun mask run ⌝ }
-{
-    mask | (1u64 << run)
-}
+// How many runs a mask can speak of.
+const MASK_BITS: u32 = 64;
 
-// Whether the mask names `run`.
-pub fn names_run(mask: u64, run: u32) -> bool
+// The mask that names `run` alone.
+pub fn only_run(run: u32) -> u64
     requires { ⌜ run < maskBits ⌝ }
-    ensures { λ r. ⌜ r ≡ eqb (bit mask run) 1 ⌝ }
+    ensures { λ r. ⌜ r ≡ 2 ^ run ⌝ }
 {
-    (mask >> run) % 2 == 1
+    1u64 << run
 }
 
 // Whether the mask names no run from `k` on.
@@ -27,7 +22,7 @@ pub fn names_only_below(mask: u64, k: u32) -> bool
     requires { ⌜ k ≤ maskBits ⌝ }
     ensures { λ r. ⌜ r ≡ eqb (mask / 2 ^ k) 0 ⌝ }
 {
-    if k == 64 {
+    if k == MASK_BITS {
         return true;
     }
     mask >> k == 0
@@ -61,7 +56,7 @@ pub fn highest_run(mask: u64) -> u32
     requires { ⌜ 0 < mask ⌝ }
     ensures { λ r. ⌜ Highest mask r ⌝ }
 {
-    63 - u64::leading_zeros(mask)
+    MASK_BITS - 1 - u64::leading_zeros(mask)
 }
 
 // The mask that names `run` no more.
@@ -69,7 +64,7 @@ pub fn without_run(mask: u64, run: u32) -> u64
     requires { ⌜ (run < maskBits) × (bit mask run ≡ 1) ⌝ }
     ensures { λ r. ⌜ r + 2 ^ run ≡ mask ⌝ }
 {
-    mask - (1u64 << run)
+    mask - only_run(run)
 }
 
 // The mask that names all the runs below `k`.
@@ -77,7 +72,7 @@ pub fn all_runs(k: usize) -> u64
     requires { ⌜ k ≤ maskBits ⌝ }
     ensures { λ r. ⌜ r ≡ 2 ^ k - 1 ⌝ }
 {
-    if k == 64 {
+    if k == MASK_BITS as usize {
         return 18446744073709551615;
     }
     (1u64 << k) - 1

@@ -1,24 +1,13 @@
--- The rows of numbers in which the C boundary returns its results. Definitions only.
+-- The rows of numbers in which the C boundary returns a verdict, a bound and a part. Definitions only.
 use Prim.Native.Nat.{ℕ, _≤_}
-use mathlib.Core.Bool.{true, false}
 use mathlib.Core.List.{List, [], _∷_}
 use mathlib.Core.Path.{_≡_}
-use lib.Dec.{ltb}
 use lib.ListN.{length, getD}
 use Rattle.bound.specs.declared.Bound.{Bound}
 use Rattle.bound.specs.declared.Bound.the-variants as bound
 use Rattle.model.specs.Between.{between}
 use Rattle.model.specs.Runs.{slice}
-use Rattle.model.specs.Refusals.{Outcome, accepted, refused, Verdict, valid, invalid}
-
--- the whole parts written: none where a first check refuses; the place of a walk refusal is their number
-unfoldable pub writtenOf : ℕ → ℕ → ℕ
-writtenOf number place = elim (ltb number 5) [ true ↦ 0 | false ↦ place ]
-
--- refusal, place, answers, parts, bytes, probes
-unfoldable pub outcomeRow : Outcome → List ℕ
-outcomeRow (accepted a n b q) = 0 ∷ 0 ∷ a ∷ n ∷ b ∷ q ∷ []
-outcomeRow (refused x p a b q) = x ∷ p ∷ a ∷ writtenOf x p ∷ b ∷ q ∷ []
+use Rattle.model.specs.Refusals.{Verdict, valid, invalid}
 
 -- refusal, place, answers, parts
 unfoldable pub verdictRow : Verdict → List ℕ

@@ -1,61 +1,11 @@
 // The C boundary, `include/quorum.h`: each call writes what it returns into a row of 64-bit numbers.
 ghost use mathlib.Core.Path.{_≡_};
 ghost use Rattle.model.specs.Refusals.{query, check};
-ghost use Rattle.query.specs.Outcomes.{outcomeIs};
 ghost use Rattle.bound.specs.Bound.{probeBound};
-ghost use Rattle.quorum.specs.Results.{outcomeRow, writtenOf, verdictRow, boundRow, PartRow};
+ghost use Rattle.quorum_rows.specs.Outcomes.{outcomeRow};
+ghost use Rattle.quorum.specs.Results.{verdictRow, boundRow, PartRow};
 use bound::Bound;
 use checker::Verdict;
-use query::Outcome;
-
-// The parts that stand where a question is refused: none before the walk, and else the place.
-fn written(number: u8, place: usize) -> u64
-    ensures { λ r. ⌜ r ≡ writtenOf number place ⌝ }
-{
-    if number < 5 {
-        return 0;
-    }
-    arith::u64_of_usize(place)
-}
-
-// An outcome as a row.
-fn put_outcome(outcome: Outcome, result: &mut [u64; 6])
-    ensures { λ r. ⌜ now (result .exit) ≡ outcomeRow (outcomeIs outcome) ⌝ }
-{
-    match outcome {
-        Outcome::Accepted {
-            answers,
-            parts,
-            bytes,
-            probes,
-        } => {
-            *result = [
-                0,
-                0,
-                arith::u64_of_usize(answers),
-                arith::u64_of_usize(parts),
-                arith::u64_of_usize(bytes),
-                arith::u64_of_u32(probes),
-            ];
-        }
-        Outcome::Refused {
-            number,
-            place,
-            answers,
-            bytes,
-            probes,
-        } => {
-            *result = [
-                number as u64,
-                arith::u64_of_usize(place),
-                arith::u64_of_usize(answers),
-                written(number, place),
-                arith::u64_of_usize(bytes),
-                arith::u64_of_u32(probes),
-            ];
-        }
-    }
-}
 
 #[no_mangle]
 pub extern "C" fn quorum_query(
@@ -72,7 +22,7 @@ pub extern "C" fn quorum_query(
     ensures certified { λ r. ⌜ now (certificate .exit) ≡ query (now (numbers .entry)) (now (ends .entry)) threshold allowance (now (answers .entry)) (now (certificate .entry)) .certificate ⌝ }
 {
     let outcome = query::query(numbers, ends, threshold, allowance, answers, certificate);
-    put_outcome(outcome, result);
+    quorum_rows::put_outcome(outcome, result);
 }
 
 #[no_mangle]

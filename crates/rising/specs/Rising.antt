@@ -11,6 +11,10 @@ use Rattle.model.specs.Runs.{one, unrisenAfter, unrisen}
 unfoldable pub unrisenFrom : ℕ → ℕ → List ℕ → Option ℕ
 unrisenFrom a i s = unrisenAfter (a + i - 1) (getD s (i - 1) 0) (drop i s)
 
+-- so many numbers are compared at once
+abbrev pub block : ℕ
+block = 64
+
 -- how many of n numbers from a place on are not above the one before
 unfoldable pub fallsIn : List ℕ → ℕ → ℕ → ℕ
 fallsIn s from zero = 0

@@ -3,9 +3,12 @@ ghost use mathlib.Core.Path.{_≡_};
 ghost use Prim.Native.Nat.{_+_, _≤_, _<_};
 ghost use lib.ListN.{length};
 ghost use Rattle.model.specs.Runs.{one, unrisen};
-ghost use Rattle.rising.specs.Rising.{fallsIn, RisenTo};
+ghost use Rattle.rising.specs.Rising.{block, fallsIn, RisenTo};
 ghost use lib.Dec.{leb};
 ghost use Rattle.rising.specs.Found.{foundPlace};
+
+// So many numbers are compared before the next branch.
+const BLOCK: usize = 64;
 
 // The place of the first number that fails a check.
 pub enum Found {
@@ -23,14 +26,14 @@ fn fall(prior: u32, x: u32) -> u32
     0
 }
 
-// How many of the 64 numbers from place `from` on are not above the one before. No branch depends on a number, so several are compared at once.
+// How many numbers of the block from place `from` on are not above the one before. No branch depends on a number, so several are compared at once.
 fn falls(run: &[u32], from: usize) -> u32
-    requires { ⌜ (1 ≤ from) × (from + 64 ≤ length (now run)) ⌝ }
-    ensures { λ r. ⌜ r ≡ fallsIn (now (run .entry)) from 64 ⌝ }
+    requires { ⌜ (1 ≤ from) × (from + block ≤ length (now run)) ⌝ }
+    ensures { λ r. ⌜ r ≡ fallsIn (now (run .entry)) from block ⌝ }
 {
     let mut count: u32 = 0;
     let mut i: usize = 0;
-    while i < 64 {
+    while i < BLOCK {
         let place = from + i;
         count += fall(run[place - 1], run[place]);
         i += 1;
@@ -38,17 +41,17 @@ fn falls(run: &[u32], from: usize) -> u32
     count
 }
 
-// A place up to which each number of a run is above the one before, at most 64 numbers short of the first that is not.
+// A place up to which each number of a run is above the one before, at most a block short of the first that is not.
 fn risen_part(run: &[u32]) -> usize
     ensures { λ r. ⌜ RisenTo (now (run .entry)) r ⌝ }
 {
     let n = run.len();
     let mut i: usize = 1;
-    while i + 64 <= n {
+    while i + BLOCK <= n {
         if 0 < falls(run, i) {
             return i;
         }
-        i += 64;
+        i += BLOCK;
     }
     i
 }

@@ -45,7 +45,7 @@ pub fn front(keys: &[u64], start: usize, limit: u64) -> Below
                 named: named,
             };
         }
-        named += 1u64 << (key % 256);
+        named += mask::only_run((key % 256) as u32);
         i += 1;
     }
     Below {

@@ -1,4 +1,4 @@
--- `range::first_at_least` meets its contract. The loop's invariant: the rank lies between lo and hi, and hi within the list. The measure, hi - lo, falls,
+-- `first_at_least` meets its contract. The loop's invariant: the rank lies between lo and hi, and hi within the list. The measure, hi - lo, falls,
 -- since the middle is at least lo and below hi. Assumes nothing.
 use Prim.Native.Nat.{_+_, _-_, _/_, _≤_}
 use denote.Ref.{now}

@@ -1,4 +1,4 @@
--- `range::between_at` meets its contract: where the list rises, the ends are the ranks of the first and of the number after the last.
+-- `places` meets its contract: where the list rises, the ends are the ranks of the first and of the number after the last.
 -- Assumes nothing.
 use borrow.Author.Needs.{needs}
 use denote.Ref.{now}

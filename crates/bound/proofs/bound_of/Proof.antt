@@ -1,4 +1,4 @@
--- `bound::bound_of` meets its contract. The binary digits of a 32-bit number are few, so the product fits. Assumes nothing.
+-- `bound_of` meets its contract. The binary digits of a 32-bit number are few, so the product fits. Assumes nothing.
 use borrow.Author.Needs.{needs}
 use native.Mathlib.Omega.{arith}
 use Rattle.model.specs.Compared.{boundOf}

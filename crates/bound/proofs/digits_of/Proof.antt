@@ -1,4 +1,4 @@
--- `bound::digits_of` meets its contract, by the law at 32 bits. Assumes nothing.
+-- `digits_of` meets its contract, by the law at 32 bits. Assumes nothing.
 use lib.Count.{leading-le}
 use native.Mathlib.Omega.{arith}
 use Rattle.bound.proofs.Digits.{digits-leading}

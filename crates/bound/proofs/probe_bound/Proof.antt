@@ -1,4 +1,4 @@
--- `bound::probe_bound` meets its contract. The loop's invariant is `Summed`: the definition from the start is the definition from here. The measure is
+-- `probe_bound` meets its contract. The loop's invariant is `Summed`: the definition from the start is the definition from here. The measure is
 -- the number of ends to come. Assumes nothing.
 use Prim.Native.Nat.{_-_, _^_, _<_}
 use borrow.Author.Needs.{needs}
@@ -61,15 +61,18 @@ loop-again c =
     rw (c .bound-of .ensures)
     (next _ _ (l .sum) (l .before) (l .i) (l .inv) (omega arith) (c .before .if3 .left) (rw (c .bound-of .ensures) at (turn-fits c)))
 
+usize-of-u32-requires : tie.Need-usize-of-u32-requires Inv-loop μ-loop
+usize-of-u32-requires c κs = search needs
+
 returns-4 : tie.Need-returns-4 Inv-loop μ-loop
 returns-4 c =
-    let l = c .before .before .loop in
-    sym (last-refused _ _ (l .sum) (l .before) (l .i) (l .inv) (omega arith) (omega arith) (c .before .loop-test .left) (c .if4 .taken))
+    let l = c .before .before .before .loop in
+    sym (last-refused _ _ (l .sum) (l .before) (l .i) (l .inv) (omega arith) (omega arith) (c .before .before .loop-test .left) (omega (arith, c .before .usize-of-u32 .ensures, c .if4 .taken)))
 
 returns-5 : tie.Need-returns-5 Inv-loop μ-loop
 returns-5 c =
-    let l = c .before .before .loop in
-    sym (sum-returned _ _ (l .sum) (l .before) (l .i) (l .inv) (omega arith) (omega arith) (c .before .loop-test .left) (c .if4 .left))
+    let l = c .before .before .before .loop in
+    sym (sum-returned _ _ (l .sum) (l .before) (l .i) (l .inv) (omega arith) (omega arith) (c .before .before .loop-test .left) (omega (arith, c .before .usize-of-u32 .ensures, c .if4 .left)))
 
 pub probe-bound-spec : {M : Type 1} → statement M
 probe-bound-spec =
@@ -88,5 +91,6 @@ probe-bound-spec =
     add-i
     loop-less
     loop-again
+    usize-of-u32-requires
     returns-4
     returns-5)

@@ -1,14 +1,17 @@
 -- `cursor_at` puts a bin and a place into one number. Assumes nothing.
 use mathlib.Core.Path.{refl}
+use Rattle.model.specs.Runs.{pastBin}
 use Rattle.check_cursor.proofs.Cursors.{place-at, bin-at}
 use borrow.Author.Needs.{needs}
 use Rattle.check_cursor.proofs.cursor_at.Statement.{statement}
 use Rattle.check_cursor.proofs.cursor_at.Tie as tie
 
 mul-result : tie.Need-mul-result
+unfolding pastBin
 mul-result c = search needs
 
 add-result : tie.Need-add-result
+unfolding pastBin
 add-result c = search needs
 
 returns : tie.Need-returns

@@ -1,6 +1,5 @@
 -- `check_part` tests an answer or a gap. Assumes nothing.
-use mathlib.Core.Path.{_≡_, refl, sym, ap, _∙_, subst}
-use native.Mathlib.Omega.{arith}
+use mathlib.Core.Path.{ap}
 use Rattle.check_part.proofs.Testing.{answer-last, gap-last, answer-checked, gap-checked}
 use borrow.Author.Needs.{needs}
 use Rattle.check_part.proofs.check_part.Statement.{statement}

@@ -1,6 +1,5 @@
 -- `misnames` tests a mask. Assumes nothing.
-use mathlib.Core.Path.{_≡_, refl, sym, ap, _∙_, subst}
-use native.Mathlib.Omega.{arith}
+use mathlib.Core.Path.{sym, _∙_}
 use Rattle.check_part.proofs.Testing.{misnames-few, misnames-other}
 use borrow.Author.Needs.{needs}
 use Rattle.check_part.proofs.misnames.Statement.{statement}

@@ -1,5 +1,5 @@
--- `contradicted` takes up the runs that an answer names, or those that a gap reaches, and scans each from its cursor on. The invariant over the runs is
--- `Sofar`, that over the numbers of a run is `Scan`; the measures are the mask of the runs left and what is left of the run. Assumes nothing.
+-- `contradicted` takes up the runs that an answer names, or those that a gap names and reaches, and scans each from its cursor on. The invariant over the
+-- runs is `Sofar`, that over the numbers of a run is `Scan`; the measures are the mask of the runs left and what is left of the run. Assumes nothing.
 use Prim.Native.Nat.{suc, _-_, _<_}
 use lib.ListN.{length}
 use lib.Pow.{pow-pos}
@@ -8,17 +8,17 @@ use mathlib.Core.Path.{_≡_, sym, _∙_, subst}
 use native.Mathlib.Omega.{arith}
 use Rattle.check_cursor.specs.Cursors.{Cursors}
 use Rattle.check_cursor.proofs.Moving.{bin-fits}
-use Rattle.check_scan.proofs.Scanning.{Sofar, sofar-start, sofar-end, Scan, run-below, scan-start, scan-more, scan-on, scan-fits, scan-found, scan-agrees}
+use Rattle.check_scan.proofs.Scanning.{Sofar, sofar-start, sofar-end, Scan, run-below, scan-start, scan-more, scan-fits, scan-found, scan-agrees, turn-more, turn-on}
 use borrow.Author.Needs.{needs}
 use Rattle.check_scan.proofs.contradicted.Statement.{statement}
 use Rattle.check_scan.proofs.contradicted.Tie as tie
 
 abbrev Inv-loop : tie.InvT-loop
-Inv-loop numbers ends cursors₀ first last mask held rest run from i end j₀ x₀ cursors j x =
-    Scan numbers ends held first last mask cursors rest run from i end j x
+Inv-loop numbers ends cursors₀ first last mask held rest run i end j₀ x₀ cursors j x =
+    Scan numbers ends held first last mask cursors rest run i end j x
 
 abbrev μ-loop : tie.MeasureT-loop
-μ-loop numbers ends cursors₀ first last mask held rest run from i end j₀ x₀ cursors j x = end - j
+μ-loop numbers ends cursors₀ first last mask held rest run i end j₀ x₀ cursors j x = end - j
 
 abbrev Inv-runs : tie.InvT-runs
 Inv-runs numbers ends cursors₀ first last mask held rest₀ cursors rest =
@@ -45,9 +45,6 @@ runs-holds c =
 lowest-run-requires : tie.Need-lowest-run-requires Inv-loop μ-loop Inv-runs μ-runs
 lowest-run-requires c κs = search needs
 
-scan-from-requires : tie.Need-scan-from-requires Inv-loop μ-loop Inv-runs μ-runs
-scan-from-requires c κs = c .lowest-run .ensures .small
-
 usize-of-u32-requires : tie.Need-usize-of-u32-requires Inv-loop μ-loop Inv-runs μ-runs
 usize-of-u32-requires c κs = search needs
 
@@ -55,8 +52,8 @@ mul-usize-of-u32 : tie.Need-mul-usize-of-u32 Inv-loop μ-loop Inv-runs μ-runs
 mul-usize-of-u32 c = search needs
 
 below : (c : tie.After-usize-of-u32 Inv-loop μ-loop Inv-runs μ-runs)
-    → c .usize-of-u32 .result < length (c .before .before .before .before .before .before .before .before .before .before .args .ends .now)
-below c = run-below (c .before .before .before .before .runs .inv .0) (c .before .before .lowest-run .ensures .here) (c .usize-of-u32 .ensures)
+    → c .usize-of-u32 .result < length (c .before .before .before .before .before .before .before .before .before .args .ends .now)
+below c = run-below (c .before .before .before .runs .inv .0) (c .before .lowest-run .ensures .here) (c .usize-of-u32 .ensures)
 
 shared-slice-read-usize-of-u32 : tie.Need-shared-slice-read-usize-of-u32 Inv-loop μ-loop Inv-runs μ-runs
 shared-slice-read-usize-of-u32 c = below (c .before)
@@ -71,7 +68,7 @@ slice-read-place-of : tie.Need-slice-read-place-of Inv-loop μ-loop Inv-runs μ-
 slice-read-place-of c =
     let w = c .before .before .before in
     let l = below w in
-    let e = w .before .before .before .before .runs .inv .0 .ready .lengths in
+    let e = w .before .before .before .runs .inv .0 .ready .lengths in
     omega (arith, l, e)
 
 place-of-requires : tie.Need-place-of-requires Inv-loop μ-loop Inv-runs μ-runs
@@ -84,7 +81,7 @@ slice-read-bin-of : tie.Need-slice-read-bin-of Inv-loop μ-loop Inv-runs μ-runs
 slice-read-bin-of c =
     let w = c .before .before .before .before .before in
     let l = below w in
-    let e = w .before .before .before .before .runs .inv .0 .ready .lengths in
+    let e = w .before .before .before .runs .inv .0 .ready .lengths in
     omega (arith, l, e)
 
 bin-of-requires : tie.Need-bin-of-requires Inv-loop μ-loop Inv-runs μ-runs
@@ -95,8 +92,8 @@ loop-holds c =
     let p = c .before .before in
     let e = p .before .before in
     let w = e .before .before in
-    scan-start (w .before .before .before .before .runs .inv .0) (w .before .before .lowest-run .ensures .here) (w .usize-of-u32 .ensures)
-    (w .before .scan-from .ensures) (e .usize-of-u322 .ensures) (p .place-of .ensures) (c .bin-of .ensures)
+    scan-start (w .before .before .before .runs .inv .0) (w .before .lowest-run .ensures .here) (w .usize-of-u32 .ensures)
+    (e .usize-of-u322 .ensures) (p .place-of .ensures) (c .bin-of .ensures)
 
 clashes-requires : tie.Need-clashes-requires Inv-loop μ-loop Inv-runs μ-runs
 clashes-requires c κs = search needs
@@ -126,20 +123,38 @@ add-j c =
 number-at-requires : tie.Need-number-at-requires Inv-loop μ-loop Inv-runs μ-runs
 number-at-requires c κs = scan-more (c .before .loop .inv) (c .if1 .left)
 
+more-passed-requires : tie.Need-more-passed-requires Inv-loop μ-loop Inv-runs μ-runs
+more-passed-requires c κs = search needs
+
+add-j-2 : tie.Need-add-j-2 Inv-loop μ-loop Inv-runs μ-runs
+add-j-2 c =
+    let t = c .before .before in
+    let m = turn-more (t .before .loop .inv) (t .if1 .left) (c .before .number-at .ensures) (c .more-passed .ensures) in
+    let k = t .before .loop .inv .sofar .ready .short in
+    omega (arith, m .0, m .1, k)
+
+number-at-requires-2 : tie.Need-number-at-requires-2 Inv-loop μ-loop Inv-runs μ-runs
+number-at-requires-2 c κs =
+    let t = c .before .before in
+    turn-more (t .before .loop .inv) (t .if1 .left) (c .before .number-at .ensures) (c .more-passed .ensures)
+
 loop-less : tie.Need-loop-less Inv-loop μ-loop Inv-runs μ-runs
 loop-less c =
-    let m = scan-more (c .before .before .loop .inv) (c .before .if1 .left) in
+    let t = c .before .before .before in
+    let m = turn-more (t .before .loop .inv) (t .if1 .left) (c .before .before .number-at .ensures) (c .before .more-passed .ensures) in
     omega (arith, m .0)
 
 loop-again : tie.Need-loop-again Inv-loop μ-loop Inv-runs μ-runs
-loop-again c = scan-on (c .before .before .loop .inv) (c .before .if1 .left) (c .number-at .ensures)
+loop-again c =
+    let t = c .before .before .before in
+    turn-on (t .before .loop .inv) (t .if1 .left) (c .before .before .number-at .ensures) (c .before .more-passed .ensures) (c .number-at2 .ensures)
 
 without-lowest-requires : tie.Need-without-lowest-requires Inv-loop μ-loop Inv-runs μ-runs
 without-lowest-requires c κs = search needs
 
 runs-less : tie.Need-runs-less Inv-loop μ-loop Inv-runs μ-runs
 runs-less c =
-    let o = c .before .before .before .before .before .before .before .before .before .before .before .before .before .before .lowest-run in
+    let o = c .before .before .before .before .before .before .before .before .before .before .before .before .before .lowest-run in
     let e = c .without-lowest .ensures .gone (o .result) (o .ensures) in
     let q = pow-pos (o .result) in
     omega (arith, e, q)
@@ -149,8 +164,8 @@ runs-again c =
     let s = c .before .before in
     let t = s .before .before in
     let w = c .before .cursor-at in
-    let o = t .before .before .before .before .before .before .before .before .before .before .lowest-run in
-    let r = t .before .before .before .before .before .before .before .before .before .before .before .before .runs in (
+    let o = t .before .before .before .before .before .before .before .before .before .lowest-run in
+    let r = t .before .before .before .before .before .before .before .before .before .before .before .runs in (
       scan-agrees (t .before .loop .inv) (t .if1 .taken) (s .before .clashes .ensures) (s .if2 .left) (w .result) (w .ensures)
           (c .without-lowest .ensures .gone (o .result) (o .ensures)),
       r .inv .1,
@@ -166,8 +181,8 @@ outcome c =
       subst (λ x. Cursors (a .numbers .now) (a .ends .now) x (suc (a .last))) (sym (w .1)) (r .inv .0 .ready),
     ))
     (λ w. (
-      scan-found (w .10 .inv) (w .11 .taken) (w .12 .ensures) (w .13 .taken) (w .0 .taken),
-      subst (λ x. Cursors (a .numbers .now) (a .ends .now) x (suc (a .last))) (sym (w .14)) (w .10 .inv .sofar .ready),
+      scan-found (w .9 .inv) (w .10 .taken) (w .11 .ensures) (w .12 .taken) (w .0 .taken),
+      subst (λ x. Cursors (a .numbers .now) (a .ends .now) x (suc (a .last))) (sym (w .13)) (w .9 .inv .sofar .ready),
     ))
     (c .runs-test .came)
 
@@ -188,7 +203,6 @@ contradicted-spec =
     to-scan-requires
     runs-holds
     lowest-run-requires
-    scan-from-requires
     usize-of-u32-requires
     mul-usize-of-u32
     shared-slice-read-usize-of-u32
@@ -206,6 +220,9 @@ contradicted-spec =
     slice-write-cursors
     add-j
     number-at-requires
+    more-passed-requires
+    add-j-2
+    number-at-requires-2
     loop-less
     loop-again
     without-lowest-requires

@@ -1,4 +1,4 @@
--- `to_scan` takes the runs that an answer names, or those that a gap reaches. Assumes nothing.
+-- `to_scan` takes the runs that an answer names, or those that a gap names and reaches. Assumes nothing.
 use Rattle.check_scan.proofs.Reaching.{to-scan-held, to-scan-gap}
 use borrow.Author.Needs.{needs}
 use Rattle.check_scan.proofs.to_scan.Statement.{statement}

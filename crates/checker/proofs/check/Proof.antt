@@ -1,6 +1,6 @@
 -- `check` returns the model's verdict for any input, and demand 2 holds of it. Assumes nothing.
 use lib.ListN.{length}
-use mathlib.Core.Path.{_≡_, refl, sym, ap, _∙_, subst}
+use mathlib.Core.Path.{_≡_, sym, ap, _∙_}
 use native.Mathlib.Omega.{arith}
 use Rattle.first_checks.specs.Checked.{checkOf}
 use Rattle.model.proofs.FirstChecks.{fits}

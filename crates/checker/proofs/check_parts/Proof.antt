@@ -1,7 +1,7 @@
 -- `check_parts` settles one field after another. The invariant is `Along`; the measure is what is left of the certificate. Assumes nothing.
 use Prim.Native.Nat.{_-_, _≤_}
 use lib.ListN.{length}
-use mathlib.Core.Path.{_≡_, refl, sym, ap, _∙_, subst}
+use mathlib.Core.Path.{_≡_, sym, _∙_}
 use native.Mathlib.Omega.{arith}
 use Rattle.field_read.specs.Reading.{partOf}
 use Rattle.model.proofs.Checking.{size-pos}

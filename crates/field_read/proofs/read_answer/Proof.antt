@@ -1,4 +1,4 @@
--- `fields::read_answer` meets its contract: at each `return` the tests that led there say which case of `readBody` holds.
+-- `read_answer` meets its contract: at each `return` the tests that led there say which case of `readBody` holds.
 -- Assumes nothing.
 use Prim.Native.Nat.{_+_}
 use borrow.Author.Needs.{needs}

@@ -1,4 +1,4 @@
--- `fields::read_field` meets its contract: the tag and the length decide which case of `readField` holds.
+-- `read_field` meets its contract: the tag and the length decide which case of `readField` holds.
 -- Assumes nothing.
 use borrow.Author.Needs.{needs}
 use denote.Ref.{now}

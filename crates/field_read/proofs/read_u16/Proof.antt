@@ -1,4 +1,4 @@
--- `fields::read_u16` meets its contract: the low byte and 256 times the high byte.
+-- `read_u16` meets its contract: the low byte and 256 times the high byte.
 -- Assumes nothing.
 use borrow.Author.Needs.{needs}
 use denote.Ref.{now}

@@ -1,4 +1,4 @@
--- `fields::read_u32` meets its contract: the low half and 256 to the power 2 times the high half.
+-- `read_u32` meets its contract: the low half and 256 to the power 2 times the high half.
 -- Assumes nothing.
 use borrow.Author.Needs.{needs}
 use denote.Ref.{now}

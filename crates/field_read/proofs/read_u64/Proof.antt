@@ -1,4 +1,4 @@
--- `fields::read_u64` meets its contract: the low half and 256 to the power 4 times the high half.
+-- `read_u64` meets its contract: the low half and 256 to the power 4 times the high half.
 -- Assumes nothing.
 use borrow.Author.Needs.{needs}
 use denote.Ref.{now}

@@ -1,4 +1,4 @@
--- `fields::write_answer` meets its contract: where the field fits, its head, value and mask are placed one after another.
+-- `write_answer` meets its contract: where the field fits, its head, value and mask are placed one after another.
 -- Assumes nothing.
 use borrow.Author.Needs.{needs}
 use denote.Ref.{now}

@@ -1,4 +1,4 @@
--- `fields::write_gap` meets its contract: where the field fits, its head, first, last and mask are placed one after another.
+-- `write_gap` meets its contract: where the field fits, its head, first, last and mask are placed one after another.
 -- Assumes nothing.
 use borrow.Author.Needs.{needs}
 use denote.Ref.{now}

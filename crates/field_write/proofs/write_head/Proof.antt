@@ -1,4 +1,4 @@
--- `fields::write_head` meets its contract: the three stores are the three bytes placed.
+-- `write_head` meets its contract: the three stores are the three bytes placed.
 -- Assumes nothing.
 use borrow.Author.Needs.{needs}
 use denote.Ref.{now}

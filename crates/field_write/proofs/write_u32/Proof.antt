@@ -1,4 +1,4 @@
--- `fields::write_u32` meets its contract: the four stores are the four bytes placed.
+-- `write_u32` meets its contract: the four stores are the four bytes placed.
 -- Assumes nothing.
 use borrow.Author.Needs.{needs}
 use denote.Ref.{now}

@@ -1,4 +1,4 @@
--- `fields::write_u64` meets its contract: the low half is placed, and the high half right after it.
+-- `write_u64` meets its contract: the low half is placed, and the high half right after it.
 -- Assumes nothing.
 use Prim.Native.Nat.{ℕ, _+_, _%_, _/_}
 use borrow.Author.Needs.{needs}

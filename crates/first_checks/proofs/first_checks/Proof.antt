@@ -4,10 +4,11 @@ use lib.ListN.{length}
 use mathlib.Core.List.{List}
 use mathlib.Core.Logic.{_≢_}
 use mathlib.Core.Option.{none}
-use mathlib.Core.Path.{_≡_, refl, sym, ap, _∙_}
+use mathlib.Core.Path.{_≡_, sym, ap, _∙_}
 use native.Mathlib.Omega.{arith}
 use Rattle.model.specs.Refusals.{refusal, fallsFrom, lastEnd}
 use Rattle.rising.specs.Found.{foundPlace}
+use Rattle.model.specs.Runs.{mostRuns}
 use Rattle.first_checks.proofs.Order as order
 use borrow.Author.Needs.{needs}
 use Rattle.first_checks.proofs.first_checks.Statement.{statement}
@@ -16,7 +17,7 @@ use Rattle.first_checks.proofs.first_checks.Tie as tie
 -- the checks of runs and threshold are passed
 record Shape (ends : List ℕ) (t : ℕ) : Type 0 where
   some-runs : length ends ≢ 0
-  few-runs : length ends ≤ 64
+  few-runs : length ends ≤ mostRuns
   some-threshold : t ≢ 0
   threshold : t ≤ length ends
 

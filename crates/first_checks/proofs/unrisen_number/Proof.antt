@@ -1,6 +1,6 @@
 -- `unrisen_number` gives the first number that is not above the one before in its run. The invariant: the definition from the first run on equals it
 -- from this run on, whose ends are still in order. The measure is the runs left. Assumes nothing.
-use Prim.Native.Nat.{ℕ, _-_, _≤_, _<_}
+use Prim.Native.Nat.{ℕ, _-_, _≤_}
 use lib.ListN.{length, take, drop}
 use mathlib.Core.List.{List}
 use mathlib.Core.Option.{Option}

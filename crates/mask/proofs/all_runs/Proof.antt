@@ -8,6 +8,9 @@ use borrow.Author.Needs.{needs}
 use Rattle.mask.proofs.all_runs.Statement.{statement}
 use Rattle.mask.proofs.all_runs.Tie as tie
 
+cast-if1 : tie.Need-cast-if1
+cast-if1 c = search needs
+
 returns : tie.Need-returns
 returns c = sym (ap (λ x. 2 ^ x - 1) (c .if1 .taken))
 
@@ -24,4 +27,4 @@ returns-2 : tie.Need-returns-2
 returns-2 c = ap (λ x. x - 1) (shifted c)
 
 pub all-runs-spec : {M : Type 1} → statement M
-all-runs-spec = tie.close (tie.spec returns shl-result sub-result returns-2)
+all-runs-spec = tie.close (tie.spec cast-if1 returns shl-result sub-result returns-2)

@@ -1,4 +1,4 @@
--- `bits::lowest_run` meets its contract: a mask that is not 0 has its lowest run at the number of its trailing zeros. Assumes nothing.
+-- `lowest_run` meets its contract: a mask that is not 0 has its lowest run at the number of its trailing zeros. Assumes nothing.
 use Rattle.mask.proofs.Lowest.{lowest-zeros}
 use Rattle.mask.proofs.lowest_run.Statement.{statement}
 use Rattle.mask.proofs.lowest_run.Tie as tie

@@ -1,4 +1,4 @@
--- `bits::names_only_below` meets its contract. A mask is below 2 to the power 64, so it names no run from 64 on; below 64 the shift is the division.
+-- `names_only_below` meets its contract. A mask is below 2 to the power 64, so it names no run from 64 on; below 64 the shift is the division.
 -- Assumes nothing.
 use borrow.Author.Needs.{needs}
 use native.Mathlib.Nat.{div-eq-of-lt}

@@ -1,4 +1,4 @@
--- `bits::without_lowest` meets its contract: a mask and the number before it have all its runs but the lowest in common. Assumes nothing.
+-- `without_lowest` meets its contract: a mask and the number before it have all its runs but the lowest in common. Assumes nothing.
 use borrow.Author.Needs.{needs}
 use Rattle.mask.proofs.Lowest.{lowest-gone}
 use Rattle.mask.proofs.without_lowest.Statement.{statement}

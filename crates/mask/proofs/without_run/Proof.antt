@@ -1,22 +1,22 @@
--- `bits::without_run` meets its contract: 1 shifted by a run below 64 is 2 to the power of the run, which a mask that names the run holds.
--- Assumes nothing.
+-- `without_run` meets its contract: a mask that names a run is at least that run's own mask. Assumes nothing.
 use borrow.Author.Needs.{needs}
 use native.Mathlib.Omega.{arith}
-use Rattle.mask.proofs.Mask.{one-shifted}
 use Rattle.mask.proofs.Lowest.{power-le}
 use Rattle.mask.proofs.without_run.Statement.{statement}
 use Rattle.mask.proofs.without_run.Tie as tie
 
-shl-result : tie.Need-shl-result
-shl-result c = search needs
+only-run-requires : tie.Need-only-run-requires
+only-run-requires c κs = search needs
 
 sub-result : tie.Need-sub-result
-sub-result c = rw (one-shifted 64 (c .args .run) (c .pre .0)) (power-le (c .args .mask) (c .args .run) (c .pre .1))
+sub-result c =
+    let a = c .before .args in
+    omega (arith, power-le (a .mask) (a .run) (c .before .pre .1))
 
 returns : tie.Need-returns
 returns c =
-    let l = power-le (c .args .mask) (c .args .run) (c .pre .1) in
-    rw (one-shifted 64 (c .args .run) (c .pre .0)) (omega arith)
+    let a = c .before .args in
+    omega (arith, power-le (a .mask) (a .run) (c .before .pre .1))
 
 pub without-run-spec : {M : Type 1} → statement M
-without-run-spec = tie.close (tie.spec shl-result sub-result returns)
+without-run-spec = tie.close (tie.spec only-run-requires sub-result returns)

@@ -1,4 +1,4 @@
--- `quorum_range` returns the places of a part as a row. Assumes nothing.
+-- `quorum_between` returns the places of a part as a row. Assumes nothing.
 use mathlib.Core.Path.{refl}
 use borrow.Author.Needs.{needs}
 use Rattle.quorum.proofs.quorum_between.Statement.{statement}
@@ -15,7 +15,6 @@ u64-of-usize-requires-2 c κs = search needs
 
 returns : tie.Need-returns
 returns c =
-    let a = c .before .before .before .before .before .args in
     let b = c .before .before .before .places in
     rw (c .before .before .u64-of-usize .ensures, c .before .u64-of-usize2 .ensures)
     (record { size = refl; ordered = b .ensures .ordered; inside = b .ensures .inside; part = b .ensures .part })

@@ -1,6 +1,6 @@
 -- `quorum_check` returns the verdict as a row. Assumes nothing.
 use mathlib.Core.List.{[], _∷_}
-use mathlib.Core.Path.{_≡_, sym, ap, _∙_}
+use mathlib.Core.Path.{sym, ap, _∙_}
 use Rattle.quorum.specs.Results.{verdictRow}
 use Rattle.checker.specs.Verdicts.{verdictIs}
 use borrow.Author.Needs.{needs}

@@ -1,6 +1,6 @@
 -- `quorum_probe_bound` returns the bound as a row. Assumes nothing.
 use mathlib.Core.List.{[], _∷_}
-use mathlib.Core.Path.{_≡_, sym, ap, _∙_}
+use mathlib.Core.Path.{sym, ap, _∙_}
 use Rattle.quorum.specs.Results.{boundRow}
 use borrow.Author.Needs.{needs}
 use Rattle.quorum.proofs.quorum_probe_bound.Statement.{statement}

@@ -1,6 +1,6 @@
 -- `quorum_query` returns the question's outcome as a row. Assumes nothing.
 use mathlib.Core.Path.{ap, _∙_}
-use Rattle.quorum.specs.Results.{outcomeRow}
+use Rattle.quorum_rows.specs.Outcomes.{outcomeRow}
 use borrow.Author.Needs.{needs}
 use Rattle.quorum.proofs.quorum_query.Statement.{statement}
 use Rattle.quorum.proofs.quorum_query.Tie as tie

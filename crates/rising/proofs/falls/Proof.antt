@@ -1,22 +1,22 @@
 -- `falls` counts the numbers that are not above the one before. The invariant: those of the first i numbers are counted. The measure is what is left.
 -- Assumes nothing.
-use Prim.Native.Nat.{ℕ, _+_, _-_, _≤_, _<_}
+use Prim.Native.Nat.{_+_, _-_, _≤_}
 use borrow.Author.Needs.{needs}
 use lib.Dec.{leb}
-use lib.ListN.{length, getD}
+use lib.ListN.{getD}
 use mathlib.Core.Path.{_≡_, sym, ap, ap₂, _∙_}
 use native.Mathlib.Omega.{arith}
-use Rattle.rising.specs.Rising.{fallsIn}
+use Rattle.rising.specs.Rising.{block, fallsIn}
 use Rattle.rising.proofs.Rising.{falls-next, falls-first, falls-most}
 use Rattle.model.proofs.Tests.{one-most}
 use Rattle.rising.proofs.falls.Statement.{statement}
 use Rattle.rising.proofs.falls.Tie as tie
 
 abbrev Inv-loop : tie.InvT-loop
-Inv-loop run from count₀ i₀ count i = (i ≤ 64) × (count ≡ fallsIn run from i)
+Inv-loop run from count₀ i₀ count i = (i ≤ block) × (count ≡ fallsIn run from i)
 
 abbrev μ-loop : tie.MeasureT-loop
-μ-loop run from count₀ i₀ count i = 64 - i
+μ-loop run from count₀ i₀ count i = block - i
 
 loop-holds : tie.Need-loop-holds Inv-loop μ-loop
 loop-holds c = (omega arith, sym (falls-first (c .before .args .run .now) (c .before .args .from)))
@@ -70,7 +70,7 @@ returns c =
     let l = c .before in
     let a = l .before .before .args in
     let v = l .loop .inv in
-    let e : l .loop .i ≡ 64 = omega (arith, v .0) in
+    let e : l .loop .i ≡ block = omega (arith, v .0) in
     v .1 ∙ ap (fallsIn (a .run .now) (a .from)) e
 
 pub falls-spec : {M : Type 1} → statement M

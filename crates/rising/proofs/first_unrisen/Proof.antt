@@ -1,6 +1,5 @@
--- `first_unrisen` gives the first number of a run that is not above the one before. Where 64 numbers hold the first such, or fewer are left, it goes from number
--- to number. The invariant: it is the first from place i on. The measure is
--- what is left. Assumes nothing.
+-- `first_unrisen` gives the first number of a run that is not above the one before. Where a block of numbers holds the first such, or fewer are left, it
+-- goes from number to number. The invariant: it is the first from place i on. The measure is what is left. Assumes nothing.
 use Prim.Native.Nat.{_-_, _≤_}
 use lib.ListN.{length}
 use mathlib.Core.Path.{_≡_, sym, _∙_}

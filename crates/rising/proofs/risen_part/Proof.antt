@@ -1,11 +1,11 @@
--- `risen_part` passes over 64 numbers at a time as long as each is above the one before. The invariant: before place i each is. The measure is what is left.
--- Assumes nothing.
-use Prim.Native.Nat.{ℕ, _+_, _-_, _≤_, _<_}
+-- `risen_part` passes over a block of numbers at a time as long as each is above the one before. The invariant: before place i each is. The measure is
+-- what is left. Assumes nothing.
+use Prim.Native.Nat.{_+_, _-_, _≤_}
 use borrow.Author.Needs.{needs}
 use lib.ListN.{length}
-use mathlib.Core.Path.{_≡_, refl, sym, ap, _∙_}
+use mathlib.Core.Path.{_≡_, refl, _∙_}
 use native.Mathlib.Omega.{arith}
-use Rattle.rising.specs.Rising.{fallsIn, RisenTo}
+use Rattle.rising.specs.Rising.{block, fallsIn, RisenTo}
 use Rattle.rising.proofs.Rising.{unrisen-start, falls-none}
 use Rattle.rising.proofs.risen_part.Statement.{statement}
 use Rattle.rising.proofs.risen_part.Tie as tie
@@ -43,10 +43,10 @@ loop-again c =
     let l = c .before .before .before in
     let r = l .before .before .args .run .now in
     let v = l .loop .inv in
-    let z : fallsIn r (l .loop .i) 64 ≡ 0 = (let e = c .before .falls .ensures in omega arith) in (
+    let z : fallsIn r (l .loop .i) block ≡ 0 = (let e = c .before .falls .ensures in omega arith) in (
       record {
         low = omega (arith, v .0 .low);
-        same = λ a. v .0 .same a ∙ falls-none r (l .loop .i) 64 (v .0 .low) (omega (arith, v .1)) z a;
+        same = λ a. v .0 .same a ∙ falls-none r (l .loop .i) block (v .0 .low) (omega (arith, v .1)) z a;
       },
       v .1,
       omega arith,

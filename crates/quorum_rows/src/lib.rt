@@ -1,0 +1,54 @@
+// A question's outcome as a row of 64-bit numbers, as the C boundary returns it.
+ghost use mathlib.Core.Path.{_≡_};
+ghost use Rattle.query.specs.Outcomes.{outcomeIs};
+ghost use Rattle.quorum_rows.specs.Outcomes.{outcomeRow, writtenOf};
+use query::Outcome;
+
+// The parts that stand where a question is refused: none before the walk, and else the place.
+fn written(number: u8, place: usize) -> u64
+    ensures { λ r. ⌜ r ≡ writtenOf number place ⌝ }
+{
+    if number < 5 {
+        return 0;
+    }
+    arith::u64_of_usize(place)
+}
+
+// An outcome as a row.
+pub fn put_outcome(outcome: Outcome, result: &mut [u64; 6])
+    ensures { λ r. ⌜ now (result .exit) ≡ outcomeRow (outcomeIs outcome) ⌝ }
+{
+    match outcome {
+        Outcome::Accepted {
+            answers,
+            parts,
+            bytes,
+            probes,
+        } => {
+            *result = [
+                0,
+                0,
+                arith::u64_of_usize(answers),
+                arith::u64_of_usize(parts),
+                arith::u64_of_usize(bytes),
+                arith::u64_of_u32(probes),
+            ];
+        }
+        Outcome::Refused {
+            number,
+            place,
+            answers,
+            bytes,
+            probes,
+        } => {
+            *result = [
+                number as u64,
+                arith::u64_of_usize(place),
+                arith::u64_of_usize(answers),
+                written(number, place),
+                arith::u64_of_usize(bytes),
+                arith::u64_of_u32(probes),
+            ];
+        }
+    }
+}
