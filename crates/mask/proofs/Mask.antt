@@ -3,12 +3,15 @@
 use Prim.Native.Nat.{ℕ, suc, _+_, _-_, _*_, _/_, _%_, _^_, _≤_, _<_, min, max}
 use lib.Bits.{bitAnd, bitOr, and-step, and-shr, or-step, or-shr, or-disjoint, and-block, and-mask, and-zero-r}
 use lib.Pow.{pow-pos, pow-lt, pow-add, shl-shr, split}
+use lib.Dec.{eqb}
+use borrow.Author.Tests.{eqb-true, eq-eqb}
+use mathlib.Core.Bool.{Bool, true, false}
 use mathlib.Core.Logic.{_≢_, ⊎-elim}
 use mathlib.Core.Path.{_≡_, sym, ap, _∙_}
 use native.Mathlib.Nat.{div-eq-of-lt, mod-lt, mod-eq-of-lt}
 use native.Mathlib.Omega.{arith}
-use Rattle.model.proofs.Masks.{bit-of}
-use Rattle.model.proofs.Tests.{lt-or-le}
+use Rattle.model.proofs.Masks.{bit-of, bit-small}
+use Rattle.model.proofs.Tests.{lt-or-le, eq-or-ne, true-false}
 use Rattle.model.specs.Runs.{bit}
 
 -- 1 shifted by i, for i below the width
@@ -58,3 +61,15 @@ or-new m i h =
 -- and leaves the other bits
 pub bit-added : (m i j : ℕ) → bit m j ≡ 0 → i ≢ j → bit (m + 2 ^ j) i ≡ bit m i
 bit-added m i j h n = ap (λ (x : ℕ). bit x i) (sym (or-new m j h)) ∙ bit-kept m i j n
+
+-- whether a run is named, tested
+pub bit-named : (m i : ℕ) (b : Bool) → b ≡ eqb (bit m i) 1 → b ≡ true → bit m i ≡ 1
+bit-named m i b e h = eqb-true (bit m i) 1 (sym e ∙ h)
+
+pub bit-unnamed : (m i : ℕ) (b : Bool) → b ≡ eqb (bit m i) 1 → b ≡ false → bit m i ≡ 0
+bit-unnamed m i b e h =
+    let l = bit-small m i in
+    ⊎-elim
+    (λ (q : bit m i ≡ 1). absurd (true-false (eq-eqb (bit m i) 1 q) (sym e ∙ h)))
+    (λ (q : bit m i ≢ 1). omega arith)
+    (eq-or-ne (bit m i) 1)

@@ -1,6 +1,6 @@
 // Masks: a 64-bit number in which bit i speaks of run i, bit 0 being the lowest.
 ghost use mathlib.Core.Path.{_≡_};
-ghost use Prim.Native.Nat.{_+_, _-_, _/_, _^_, _≤_, _<_};
+ghost use Prim.Native.Nat.{_+_, _-_, _*_, _/_, _^_, _≤_, _<_};
 ghost use lib.Count.{ones};
 ghost use lib.Dec.{eqb};
 ghost use Rattle.model.specs.Runs.{bit, maskBits};
@@ -15,6 +15,14 @@ pub fn only_run(run: u32) -> u64
     ensures { λ r. ⌜ r ≡ 2 ^ run ⌝ }
 {
     1u64 << run
+}
+
+// Whether the mask names `run`.
+fn names_run(mask: u64, run: u32) -> bool
+    requires { ⌜ run < maskBits ⌝ }
+    ensures { λ r. ⌜ r ≡ eqb (bit mask run) 1 ⌝ }
+{
+    (mask >> run) % 2 == 1
 }
 
 // Whether the mask names no run from `k` on.
@@ -59,12 +67,15 @@ pub fn highest_run(mask: u64) -> u32
     MASK_BITS - 1 - u64::leading_zeros(mask)
 }
 
-// The mask that names `run` no more.
+// The mask that names `run` no more, the same where it did not.
 pub fn without_run(mask: u64, run: u32) -> u64
-    requires { ⌜ (run < maskBits) × (bit mask run ≡ 1) ⌝ }
-    ensures { λ r. ⌜ r + 2 ^ run ≡ mask ⌝ }
+    requires { ⌜ run < maskBits ⌝ }
+    ensures { λ r. ⌜ r + bit mask run * 2 ^ run ≡ mask ⌝ }
 {
-    mask - only_run(run)
+    if names_run(mask, run) {
+        return mask - only_run(run);
+    }
+    mask
 }
 
 // The mask that names all the runs below `k`.
