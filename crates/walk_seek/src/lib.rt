@@ -13,19 +13,19 @@ pub enum Probed {
 }
 
 // The places in `numbers` that a search goes through.
-pub struct Part {
+pub struct Places {
     pub from: usize,
     pub to: usize,
 }
 
 // A search of a run begins at the run's position and ends at its end.
-fn part_of(ends: &[u32], positions: &[u32], i: usize) -> Part
+fn searched_places(ends: &[u32], positions: &[u32], i: usize) -> Places
     requires { ⌜ (i < length (now ends)) × (i < length (now positions)) ⌝ }
     ensures { λ r. ⌜ (r .from ≡ getD (now (positions .entry)) i 0) × (r .to ≡ getD (now (ends .entry)) i 0) ⌝ }
 {
     let from = arith::usize_of_u32(positions[i]);
     let to = arith::usize_of_u32(ends[i]);
-    Part { from: from, to: to }
+    Places { from: from, to: to }
 }
 
 // Searches run `run` for v and moves it there.
@@ -41,9 +41,9 @@ pub fn search_run(
     ensures { λ r. ⌜ SearchedRun (now (numbers .entry)) (now (ends .entry)) (now (positions .entry)) run v left (now (positions .exit)) r ⌝ }
 {
     let i = arith::usize_of_u32(run);
-    let part = part_of(ends, positions, i);
-    let p = part.from;
-    let e = part.to;
+    let places = searched_places(ends, positions, i);
+    let p = places.from;
+    let e = places.to;
     let Sought::Found {
         place,
         doublings,
