@@ -18,6 +18,16 @@ use Rattle.model.specs.Rows.{Ordered}
 use Rattle.walk_keys.specs.Row.{insertKey, sumOf}
 use Rattle.walk_state.specs.State.{noRun, runsAt, keyOf, weigh, putHead, notNamed}
 
+-- ---- what a sum over keys adds for a run
+
+pub weigh-some : (g : ℕ → ℕ) (r : Run) → head r < pastBin → weigh g r ≡ g (keyOf r)
+unfolding weigh
+weigh-some g r h = rw (lt-ltb (head r) pastBin h, weigh)
+
+pub weigh-none : (g : ℕ → ℕ) (r : Run) → pastBin ≤ head r → weigh g r ≡ 0
+unfolding weigh
+weigh-none g r h = rw (le-ltb (head r) pastBin h, weigh)
+
 -- ---- runs at positions
 
 pub runs-at-length : (i : ℕ) (numbers positions ends : List ℕ) → length positions ≡ length ends → length (runsAt i numbers positions ends) ≡ length ends

@@ -21,16 +21,9 @@ use Rattle.model.proofs.Tests.{lt-or-le, true-false}
 use Rattle.walk_keys.proofs.Row.{below-nil, below-pass, sum-one, member-sum, member-at, front-sum, rest-sum, below-sum, nth-enough, nth-few}
 use Rattle.walk_keys.specs.Row.{sumOf, belowCount, labelSum, Labels}
 use Rattle.walk_state.specs.State.{keyOf, weigh, InOrder, notNamed}
+use Rattle.walk_state.proofs.Moving.{weigh-some, weigh-none}
 
 -- ---- one run
-
-weigh-some : (g : ℕ → ℕ) (r : Run) → head r < pastBin → weigh g r ≡ g (keyOf r)
-unfolding weigh
-weigh-some g r h = rw (lt-ltb (head r) pastBin h, weigh)
-
-weigh-none : (g : ℕ → ℕ) (r : Run) → pastBin ≤ head r → weigh g r ≡ 0
-unfolding weigh
-weigh-none g r h = rw (le-ltb (head r) pastBin h, weigh)
 
 key-head : (r : Run) → r .label < 256 → keyOf r / 256 ≡ head r
 unfolding keyOf
