@@ -15,7 +15,7 @@ use Rattle.hits_input.specs.Instances.{bytes}
 use Rattle.hits_parts.specs.Parts.{partLine, partLines, partsFrom, partsHeld}
 use Rattle.hits_render.specs.Text.{doneLine, refuseLine, rendered}
 use Rattle.hits_ask.specs.Ask.{shown, asked, textFor}
-use Rattle.hits_text.specs.Hits.{parsed, printed, hits}
+use Rattle.hits_answer.specs.Hits.{parsed, printed, hits}
 use Rattle.hits_printed.specs.Instances.{listingInput, listingText, refusedInput, refusedText}
 
 pub listing-printed : (hits listingInput ≡ listingText) × (hits refusedInput ≡ refusedText)

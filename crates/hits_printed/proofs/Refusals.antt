@@ -24,9 +24,9 @@ use Rattle.hits_parts.specs.Parts.{partLine, partLines, partsHeld}
 use Rattle.hits_render.specs.Text.{doneLine, refuseLine, rendered}
 use Rattle.hits_ask.specs.Ask.{shown, asked, textFor}
 use Rattle.hits_parse.proofs.Parsing.{ends-length}
-use Rattle.hits_text.specs.Hits.{parsed, hits}
+use Rattle.hits_answer.specs.Hits.{parsed, hits}
 use Rattle.hits_printed.specs.Refusals.{Printable}
-use Rattle.hits_text.proofs.Printing.{take-over, refused-not, prints-refusal, prints-question}
+use Rattle.hits_answer.proofs.Printing.{take-over, refused-not, prints-refusal, prints-question}
 use Rattle.text_read.specs.Numbers.{allDigits, decimalValue, number}
 use Rattle.text_read.specs.Pieces.{split}
 

@@ -1,35 +1,11 @@
 // The text that the program hits prints for an input, whatever it is (document 01, 'The program hits').
 ghost use mathlib.Core.Path.{_≡_};
 ghost use Prim.Native.Nat.{_≤_};
-ghost use lib.ListN.{length};
+ghost use lib.ListN.{length, take};
 ghost use Rattle.hits_render.specs.Text.{Shows};
-ghost use Rattle.hits_limits.specs.Limits.{inputRuns, inputNumbers, mostText};
-ghost use Rattle.hits_text.specs.Hits.{hits};
-use hits_parse::Parsed;
+ghost use Rattle.hits_limits.specs.Limits.{mostText};
+ghost use Rattle.hits_answer.specs.Hits.{hits};
 use hits_render::Rendered;
-
-// The text for an input, whose question is stored in these rows.
-fn text_in(input: &[u8], numbers: &mut [u32], ends: &mut [u32], text: &mut [u8]) -> Rendered
-    requires { ⌜ (length (now numbers) ≡ inputNumbers) × (length (now ends) ≡ inputRuns) ⌝ }
-    ensures shows { λ r. ⌜ Shows (hits (now (input .entry))) (now (text .entry)) (now (text .exit)) r ⌝ }
-    ensures enough { λ r. ⌜ (mostText ≤ length (now (text .entry)) → r ≡ Rendered.Text (length (hits (now (input .entry))))) ⌝ }
-{
-    match hits_parse::parse(input, numbers, ends) {
-        Parsed::Faulty(line) => hits_render::refuse(12, line, text),
-        Parsed::Question {
-            threshold,
-            allowance,
-            runs,
-            count,
-        } => hits_ask::ask(
-            &numbers[0..count],
-            &ends[0..runs],
-            threshold,
-            allowance,
-            text,
-        ),
-    }
-}
 
 // The text for an input.
 pub fn text_for(input: &[u8], text: &mut [u8]) -> Rendered
@@ -38,5 +14,16 @@ pub fn text_for(input: &[u8], text: &mut [u8]) -> Rendered
 {
     let mut numbers = hits_limits::room_for_numbers();
     let mut ends = hits_limits::room_for_ends();
-    text_in(input, &mut numbers, &mut ends, text)
+    hits_answer::text_in(input, &mut numbers, &mut ends, text)
+}
+
+// Writes the text for an input, and returns how long it is: the first bytes of the buffer, as many as are returned, are the text.
+pub fn write_text(input: &[u8], text: &mut [u8]) -> usize
+    requires { ⌜ mostText ≤ length (now text) ⌝ }
+    ensures { λ r. ⌜ (r ≤ length (now (text .exit))) × (take r (now (text .exit)) ≡ hits (now (input .entry))) ⌝ }
+{
+    if let Rendered::Text(size) = text_for(input, text) {
+        return size;
+    }
+    0
 }

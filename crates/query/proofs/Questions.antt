@@ -8,7 +8,7 @@ use Rattle.model.specs.Runs.{pastBin}
 use Rattle.model.proofs.Demands as demands
 use Rattle.walk_progress.specs.Progress.{outcomeAt, ended}
 use Rattle.walk_write.specs.Writes.{countsOf, endsWith}
-use Rattle.walk_rounds.specs.Ends.{ComesTo}
+use Rattle.walk_whole.specs.Whole.{ComesTo}
 use Rattle.walk_rounds.specs.declared.End.{End}
 use Rattle.query.specs.Outcomes.{Returns}
 

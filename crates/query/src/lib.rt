@@ -66,7 +66,7 @@ fn answer(
     let mut positions = [0u32; limits::MOST_RUNS];
     let mut keys = [0u64; limits::MOST_RUNS];
     let k = ends.len();
-    let end = walk_rounds::whole_walk(
+    let end = walk_whole::whole_walk(
         numbers,
         ends,
         threshold,

@@ -1,9 +1,7 @@
 -- The rounds made to the walk's end. Definitions only.
-use Prim.Native.Nat.{ℕ, _+_, _-_, _≤_}
+use Prim.Native.Nat.{ℕ, _+_, _≤_}
 use mathlib.Core.List.{List}
 use mathlib.Core.Path.{_≡_}
-use lib.ListN.{length}
-use Rattle.model.specs.Refusals.{passed, firstChecks}
 use Rattle.model.specs.Runs.{Run, pastBin}
 use Rattle.model.specs.Walk.{walk}
 use Rattle.walk_rounds.specs.declared.End.{End}
@@ -15,14 +13,3 @@ pub record Finishes (rs : List Run) (t : ℕ) (w : State) (answers certificate a
   pub left : r .at .left ≤ w .left
   pub comes-to : (allowance n : ℕ) → w .left ≤ allowance → pastBin ≤ w .floor + n
       → goesOn allowance w answers certificate (walk n t (w .floor) rs) ≡ endsWith (r .number) allowance (r .at) answers′ certificate′
-
--- a question that passed the first checks, with rows for its walk
-pub record Begins (numbers ends : List ℕ) (t : ℕ) (positions keys : List ℕ) : Type 0 where
-  pub checked : firstChecks numbers ends t ≡ passed
-  pub positions-size : length positions ≡ length ends
-  pub keys-size : length keys ≡ length ends
-
--- the walk ended so, and with these buffers, as the question does
-pub record ComesTo (answered : Rattle.model.specs.Refusals.Answered) (allowance : ℕ) (answers′ certificate′ : List ℕ) (r : End) : Type 0 where
-  pub left : r .at .left ≤ allowance
-  pub as-asked : answered ≡ endsWith (r .number) allowance (r .at) answers′ certificate′

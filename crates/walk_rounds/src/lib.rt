@@ -1,9 +1,8 @@
-// The walk from its beginning to its end (document 01, 'The walk'): each run at its first number, then rounds until one ends it.
+// Rounds of the walk until one ends it (document 01, 'The walk').
 ghost use Rattle.walk_state.specs.State.{runsAt};
 ghost use Rattle.walk_write.specs.Writes.{Fitted};
 ghost use Rattle.walk_settle.specs.Turns.{Stands};
-ghost use Rattle.walk_rounds.specs.Ends.{Finishes, Begins, ComesTo};
-ghost use Rattle.model.specs.Refusals.{query};
+ghost use Rattle.walk_rounds.specs.Ends.{Finishes};
 use walk_write::State;
 use walk_write::Turn;
 
@@ -14,7 +13,7 @@ pub struct End {
 }
 
 // Rounds until one ends the walk.
-fn all_rounds(
+pub fn all_rounds(
     numbers: &[u32],
     ends: &[u32],
     threshold: usize,
@@ -49,38 +48,4 @@ fn all_rounds(
             },
         }
     }
-}
-
-// The walk from its beginning to its end.
-pub fn whole_walk(
-    numbers: &[u32],
-    ends: &[u32],
-    threshold: usize,
-    allowance: u32,
-    positions: &mut [u32],
-    keys: &mut [u64],
-    answers: &mut [u32],
-    certificate: &mut [u8],
-) -> End
-    requires { ⌜ Begins (now numbers) (now ends) threshold (now positions) (now keys) ⌝ }
-    ensures { λ r. ⌜ ComesTo (query (now (numbers .entry)) (now (ends .entry)) threshold allowance (now (answers .entry)) (now (certificate .entry))) allowance (now (answers .exit)) (now (certificate .exit)) r ⌝ }
-{
-    let start = walk_step::begin(numbers, ends, positions, keys);
-    all_rounds(
-        numbers,
-        ends,
-        threshold,
-        positions,
-        keys,
-        answers,
-        certificate,
-        State {
-            floor: 0,
-            start: start,
-            answers: 0,
-            parts: 0,
-            bytes: 0,
-            left: allowance,
-        },
-    )
 }

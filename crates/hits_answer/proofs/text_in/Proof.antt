@@ -7,10 +7,10 @@ use Rattle.hits_input.specs.Input as text
 use Rattle.hits_render.specs.Text.{Shows}
 use Rattle.hits_render.specs.declared.Rendered.the-variants.{Text}
 use Rattle.hits_limits.specs.Limits.{mostText}
-use Rattle.hits_text.proofs.Printing.{refusal-text, question-text, question-fits}
+use Rattle.hits_answer.proofs.Printing.{refusal-text, question-text, question-fits}
 use borrow.Author.Needs.{needs}
-use Rattle.hits_text.proofs.text_in.Statement.{statement}
-use Rattle.hits_text.proofs.text_in.Tie as tie
+use Rattle.hits_answer.proofs.text_in.Statement.{statement}
+use Rattle.hits_answer.proofs.text_in.Tie as tie
 
 parse-requires : tie.Need-parse-requires
 parse-requires c κs = search needs

@@ -3,11 +3,11 @@ use native.Mathlib.Omega.{arith}
 use Rattle.model.specs.Demands.{Fits}
 use Rattle.model.specs.Runs.{pastBin}
 use Rattle.walk_state.proofs.Moving.{past-is}
-use Rattle.walk_rounds.proofs.Beginning.{begin-ready, stands-first, comes-first}
+use Rattle.walk_whole.proofs.Beginning.{begin-ready, stands-first, comes-first}
 use Rattle.model.proofs.FirstChecks.{fits}
 use borrow.Author.Needs.{needs}
-use Rattle.walk_rounds.proofs.whole_walk.Statement.{statement}
-use Rattle.walk_rounds.proofs.whole_walk.Tie as tie
+use Rattle.walk_whole.proofs.whole_walk.Statement.{statement}
+use Rattle.walk_whole.proofs.whole_walk.Tie as tie
 
 begin-requires : tie.Need-begin-requires
 begin-requires c κs =

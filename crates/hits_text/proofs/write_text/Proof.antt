@@ -6,10 +6,10 @@ use native.Mathlib.Omega.{arith}
 use Rattle.hits_render.specs.Text.{Shows}
 use Rattle.hits_render.specs.declared.Rendered.the-variants.{Text, Full}
 use Rattle.hits_render.proofs.Fitting.{shown-text}
-use Rattle.hits_text.specs.Hits.{hits}
+use Rattle.hits_answer.specs.Hits.{hits}
 use borrow.Author.Needs.{needs}
-use Rattle.hits.proofs.write_text.Statement.{statement}
-use Rattle.hits.proofs.write_text.Tie as tie
+use Rattle.hits_text.proofs.write_text.Statement.{statement}
+use Rattle.hits_text.proofs.write_text.Tie as tie
 
 text-for-requires : tie.Need-text-for-requires
 text-for-requires c κs = search needs

@@ -15,8 +15,9 @@ use Rattle.walk_progress.specs.Progress.{noCounts, onward}
 use Rattle.walk_progress.proofs.Progress.{onward-start}
 use Rattle.walk_write.specs.Writes.{countsOf, goesOn, Fitted}
 use Rattle.walk_settle.specs.Turns.{Stands}
-use Rattle.walk_rounds.specs.Ends.{Finishes, Begins, ComesTo}
+use Rattle.walk_rounds.specs.Ends.{Finishes}
+use Rattle.walk_whole.specs.Whole.{Begins, ComesTo}
 use Rattle.walk_rounds.specs.declared.End.{End}
 use Rattle.walk_write.specs.declared.State.{State}
 use Rattle.walk_state.proofs.Moving.{past-is}
 use Rattle.walk_state.specs.Moves.{BeginReady}

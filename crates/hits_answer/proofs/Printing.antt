@@ -15,7 +15,7 @@ use Rattle.hits_input.specs.Input as text
 use Rattle.hits_limits.specs.Limits.{mostBytes, inputRuns, inputNumbers}
 use Rattle.hits_render.specs.Text.{refuseLine}
 use Rattle.hits_ask.specs.Ask.{textFor}
-use Rattle.hits_text.specs.Hits.{parsed, printed, hits}
+use Rattle.hits_answer.specs.Hits.{parsed, printed, hits}
 use Rattle.text_read.specs.Pieces.{split}
 
 -- ---- the input
