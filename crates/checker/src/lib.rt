@@ -101,8 +101,8 @@ fn check_all(
 }
 
 // Whether a certificate, whoever wrote it, is true of the lists and the threshold: it covers all bins in order, and each part is true of the runs that
-// it names. After the first checks at most numbers + parts × runs steps: one for each run of each part, and one for each number passed, which is then read no
-// more.
+// it names. After the first checks at most numbers + parts × runs steps: one for each run of each part, and one for each number passed, to which no part goes
+// back.
 pub fn check(numbers: &[u32], ends: &[u32], threshold: u32, certificate: &[u8]) -> Verdict
     ensures verdict { λ r. ⌜ verdictIs r ≡ check (now (numbers .entry)) (now (ends .entry)) threshold (now (certificate .entry)) ⌝ }
     ensures accepted { λ r. ⌜ Accepted (now (numbers .entry)) (now (ends .entry)) threshold (now (certificate .entry)) (verdictIs r) ⌝ }

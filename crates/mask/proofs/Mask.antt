@@ -1,5 +1,5 @@
--- A run's own mask, the bits of two masks together, and a mask with a run's bit set: its other bits stay, and where the bit was 0 the mask grows by 2 to the power of the run.
--- Stated over the run and the width. Assumes nothing.
+-- A run's own mask, the bits of two masks together, a mask with a run's bit set (its other bits stay, and where the bit was 0 the mask grows by 2 to the power
+-- of the run), and a run's bit tested. Stated over the run and the width. Assumes nothing.
 use Prim.Native.Nat.{ℕ, suc, _+_, _-_, _*_, _/_, _%_, _^_, _≤_, _<_, min, max}
 use lib.Bits.{bitAnd, bitOr, and-step, and-shr, or-step, or-shr, or-disjoint, and-block, and-mask, and-zero-r}
 use lib.Pow.{pow-pos, pow-lt, pow-add, shl-shr, split}

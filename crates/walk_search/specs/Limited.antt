@@ -1,4 +1,5 @@
 -- A search with so many probes left: the defined one where they are enough, and otherwise as many probes of it as are left.
+-- Definitions only.
 use Prim.Native.Nat.{ℕ, _+_, _-_, min}
 use mathlib.Core.Bool.{true, false}
 use lib.Dec.{leb}

@@ -1,4 +1,4 @@
--- What the functions that move runs ask and give.
+-- What the functions that move runs ask and give. Definitions only.
 use Prim.Native.Nat.{ℕ, _-_, _^_, _≤_, _<_}
 use mathlib.Core.List.{List, List·Memᴰ}
 use mathlib.Core.Path.{_≡_}
