@@ -1,6 +1,7 @@
 /*
- * Asks which numbers at least two of {2, 5, 9}, {5, 7, 9, 12} and {1, 9} hold.
- * Prints the results and the parts of the certificate, as in expected.txt.
+ * Asks which bins at least two of {2, 5, 9}, {5, 7, 9, 12} and {1, 9} hold, has
+ * the certificate checked, and prints the results and the certificate's parts,
+ * as in expected.txt.
  *
  *     cc -Iinclude examples/query.c -Ltarget/staticlib -lquorum
  */
@@ -8,6 +9,16 @@
 #include <stdio.h>
 
 #include "quorum.h"
+
+/* A decoder of a certificate's parts, to copy. */
+
+/** A part: an answer, whose value is both its first and its last bin, or a gap. */
+typedef struct {
+    int is_answer;
+    uint32_t first;
+    uint32_t last;
+    uint64_t mask;
+} part_t;
 
 /** Returns the number in `count` bytes, lowest first. */
 static uint64_t read_number(const uint8_t *bytes, int count) {
@@ -18,40 +29,78 @@ static uint64_t read_number(const uint8_t *bytes, int count) {
     return number;
 }
 
-/** Prints the part of one field and returns the field after it. */
-static const uint8_t *print_part(const uint8_t *field) {
-    const uint8_t *body = field + 3;
-    if (field[0] == 1) {
-        printf("hit %" PRIu64 " %" PRIu64 "\n", read_number(body, 4),
-               read_number(body + 4, 8));
-    } else {
-        printf("gap %" PRIu64 " %" PRIu64 " %" PRIu64 "\n",
-               read_number(body, 4), read_number(body + 4, 4),
-               read_number(body + 8, 8));
+/**
+ * Reads the part whose field is at the front of `size` bytes. Returns the size
+ * of the field, or 0 if it is cut short, its tag is unknown or its length is not
+ * the tag's. Whether the part is true is for quorum_check to say.
+ */
+static size_t read_part(const uint8_t *bytes, size_t size, part_t *part) {
+    size_t field_size;
+    if (size < 3) {
+        return 0;
     }
-    return body + read_number(field + 1, 2);
+    part->is_answer = bytes[0] == QUORUM_TAG_ANSWER;
+    if (!part->is_answer && bytes[0] != QUORUM_TAG_GAP) {
+        return 0;
+    }
+    field_size = part->is_answer ? QUORUM_ANSWER_SIZE : QUORUM_GAP_SIZE;
+    if (size < field_size || 3 + read_number(bytes + 1, 2) != field_size) {
+        return 0;
+    }
+    part->first = (uint32_t)read_number(bytes + 3, 4);
+    part->last = (uint32_t)read_number(bytes + (part->is_answer ? 3 : 7), 4);
+    part->mask = read_number(bytes + field_size - 8, 8);
+    return field_size;
+}
+
+/* The end of the decoder. */
+
+static void print_part(const part_t *part) {
+    if (part->is_answer) {
+        printf("hit %" PRIu32 " %" PRIu64 "\n", part->first, part->mask);
+    } else {
+        printf("gap %" PRIu32 " %" PRIu32 " %" PRIu64 "\n", part->first,
+               part->last, part->mask);
+    }
+}
+
+static void print_row(const char *const *names, const uint64_t *row, int count) {
+    for (int i = 0; i < count; i++) {
+        printf("%s %" PRIu64 "\n", names[i], row[i]);
+    }
 }
 
 int main(void) {
-    static const char *const names[6] = {"refusal", "place", "answers",
-                                         "parts",   "bytes", "probes"};
+    static const char *const names[QUORUM_QUERY_ROW] = {
+        "refusal", "place", "answers", "parts", "bytes", "probes"};
     const uint32_t numbers[9] = {2, 5, 9, 5, 7, 9, 12, 1, 9};
     const uint32_t ends[3] = {3, 7, 9};
-    uint32_t answers[9];
-    uint8_t certificate[34 * 9 + 19];
-    uint64_t result[6];
-    const uint8_t *field = certificate;
+    uint32_t answers[QUORUM_ENOUGH_ANSWERS(9)];
+    uint8_t certificate[QUORUM_ENOUGH_BYTES(9)];
+    uint64_t result[QUORUM_QUERY_ROW], verdict[QUORUM_CHECK_ROW];
+    size_t offset = 0, size;
+    part_t part;
 
-    quorum_query(numbers, 9, ends, 3, 2, 3, answers, 9, certificate,
-                 sizeof certificate, result);
-    for (int i = 0; i < 6; i++) {
-        printf("%s %" PRIu64 "\n", names[i], result[i]);
-    }
-    for (uint64_t i = 0; i < result[QUORUM_ANSWERS]; i++) {
+    quorum_query(numbers, 9, ends, 3, 2, QUORUM_ENOUGH_PROBES, answers,
+                 QUORUM_ENOUGH_ANSWERS(9), certificate, sizeof certificate,
+                 result);
+    print_row(names, result, QUORUM_QUERY_ROW);
+    for (uint64_t i = 0; i < result[QUORUM_QUERY_ANSWERS]; i++) {
         printf("answer %" PRIu32 "\n", answers[i]);
     }
-    for (uint64_t i = 0; i < result[QUORUM_PARTS]; i++) {
-        field = print_part(field);
+    while (offset < result[QUORUM_QUERY_BYTES]) {
+        size = read_part(certificate + offset,
+                         result[QUORUM_QUERY_BYTES] - offset, &part);
+        if (size == 0) {
+            return 1;
+        }
+        print_part(&part);
+        offset += size;
     }
-    return result[QUORUM_REFUSAL] != 0;
+
+    quorum_check(numbers, 9, ends, 3, 2, certificate,
+                 result[QUORUM_QUERY_BYTES], verdict);
+    print_row(names, verdict, QUORUM_CHECK_ROW);
+    return result[QUORUM_REFUSAL] != QUORUM_ACCEPTED
+        || verdict[QUORUM_REFUSAL] != QUORUM_ACCEPTED;
 }

@@ -1,47 +1,38 @@
 /*
- * quorum.h: which numbers do at least t of k rising lists hold?
+ * quorum.h: which bins do at least t of k runs hold?
  *
- * A run is a rising list of 32-bit numbers. All runs lie one after another in
- * `numbers`, at most 1,048,576 of them; `ends[i]` is the place after the last
- * number of run i, so `ends_len` is the number of runs, from 1 to 64. Runs may
- * be empty. Bit i of a 64-bit mask names run i, bit 0 being the lowest.
+ * A bin is a 32-bit number, a run a rising list of bins. All runs lie one after
+ * another in `numbers`; `ends[i]` is the place after the last number of run i,
+ * so `ends_len` is the number of runs. Ends are ends and not offsets from 0:
+ * runs of 3, 4 and 2 numbers have ends 3, 7, 9, and not 0, 3, 7. A run may be
+ * empty. Bit i of a 64-bit mask names run i, bit 0 being the lowest.
  *
- * Every function returns for every input, reads and writes only the memory it
- * is lent, and allocates none. A pointer is aligned for its type and never
- * null, also where its length is 0. No row written to may overlap another.
+ * docs/SPECIFICATION.md says whole what each call does with any input.
  *
- * Refusals, in the order of checking:
+ * Calling: every function returns for every input, reads and writes only the
+ * rows it is lent, allocates nothing and keeps no state, so it may be called
+ * from several threads at once on rows that no other call writes to. A pointer
+ * is aligned for its type and never null, also where its length is 0: the data()
+ * of an empty C++ vector may be null and must not be passed as it is. No row
+ * written to may overlap another.
  *
- *    1  no runs or more than 64; place: ends_len
- *    2  the threshold is 0 or above the number of runs; place: threshold
- *    3  an end is below the one before; place: its index
- *    3  else the last end is not numbers_len, or is above 1,048,576; place: ends_len
- *    4  a number is not above the one before it in its run; place: its index
- *    7  the allowance is used up and a probe is due; place: parts written
- *    5  an answer is due and the answer buffer is full; place: parts written
- *    6  a part is due and does not fit the certificate buffer; place: parts written
- *    8  a field is cut short, its tag is unknown or its length is not the tag's
- *    9  a part does not begin at the next uncovered number, its last number is
- *       below its first, or nothing is uncovered
- *   10  a mask names a run that does not exist, or too few
- *   11  a named run contradicts its part
- *    9  at the end, a number is still uncovered
+ * Linking: `rt staticlib quorum` makes target/staticlib/libquorum.a, for x86-64
+ * Linux. It uses memcpy and memset of the C library and nothing else:
  *
- * 1 to 4 arise in quorum_query and quorum_check; 5 to 7 in quorum_query only,
- * whichever its walk meets first; 8 to 11 in quorum_check only. The place of 8
- * to 11 is the offset of the field's tag in the certificate, or the
- * certificate's length at its end.
+ *    cc -Iinclude program.c -Ltarget/staticlib -lquorum
  *
  * A certificate is a row of fields, each a one-byte tag, a two-byte length and
- * a body, lowest byte first:
+ * a body, numbers of several bytes having their lowest byte first:
  *
  *    tag 1, length 12: an answer: value (4 bytes), mask (8) of runs that hold it
  *    tag 2, length 16: a gap: first (4), last (4), mask (8) of runs with no
  *                      number from first to last
  *
- * It is true if its parts cover 0 to 4294967295 in order with no hole and no
+ * It is true if its parts cover 0 to QUORUM_LAST_BIN in order with no hole and no
  * overlap, each answer names at least `threshold` runs, each gap names at least
- * `ends_len - threshold + 1`, and what it says of each named run holds.
+ * `ends_len - threshold + 1`, and what it says of each named run holds. An
+ * answer that quorum_query writes names all the runs that hold it.
+ * examples/query.c has a decoder of the fields to copy.
  */
 #ifndef QUORUM_H
 #define QUORUM_H
@@ -53,67 +44,159 @@
 extern "C" {
 #endif
 
-/** Places in the results of quorum_query and, up to the parts, quorum_check. */
+/** The version. While the major number is 0, a higher minor one may change calls. */
+#define QUORUM_VERSION_MAJOR 0
+#define QUORUM_VERSION_MINOR 1
+#define QUORUM_VERSION_PATCH 0
+
+/** The limits: runs, numbers of all runs together, and the last bin. */
+#define QUORUM_MAX_RUNS 64
+#define QUORUM_MAX_NUMBERS 1048576
+#define QUORUM_LAST_BIN 4294967295u
+
+/**
+ * Room that is always enough for n numbers: with so many answers and certificate
+ * bytes refusals 5 and 6 never occur. (Proved: `room-enough`.)
+ */
+#define QUORUM_ENOUGH_ANSWERS(n) ((size_t)(n))
+#define QUORUM_ENOUGH_BYTES(n) (34 * (size_t)(n) + 19)
+
+/**
+ * An allowance of probes that is always enough: 2 * 1048576 * 21. With it, or any
+ * larger one, refusal 7 never occurs. (Proved: `always-enough`.) For n numbers in
+ * all, b being the binary digits of n, 2 * n * b is enough too (`numbers-enough`).
+ */
+#define QUORUM_ENOUGH_PROBES 44040192u
+
+/** The fields of a certificate: their tags, and their sizes with tag and length. */
+#define QUORUM_TAG_ANSWER 1
+#define QUORUM_TAG_GAP 2
+#define QUORUM_ANSWER_SIZE 15
+#define QUORUM_GAP_SIZE 19
+
+/**
+ * The refusals. 1 to 4 are the first checks of quorum_query and quorum_check, in
+ * this order; 5 to 7 arise in quorum_query, whichever its walk meets first; 8 to
+ * 11 in quorum_check, at the first wrong field. quorum_probe_bound has 1 and 3.
+ * (12 is the program's: a line of its input cannot be read.)
+ */
 enum {
-    QUORUM_REFUSAL = 0,
-    QUORUM_PLACE = 1,
-    QUORUM_ANSWERS = 2,
-    QUORUM_PARTS = 3,
-    QUORUM_BYTES = 4,
-    QUORUM_PROBES = 5
+    QUORUM_ACCEPTED = 0,
+    /** No runs or more than 64. Place: ends_len. */
+    QUORUM_BAD_RUN_COUNT = 1,
+    /** The threshold is 0 or above the number of runs. Place: threshold. */
+    QUORUM_BAD_THRESHOLD = 2,
+    /**
+     * An end is below the one before; place: its index. Else the last end is not
+     * numbers_len, or is above 1,048,576; place: ends_len.
+     */
+    QUORUM_BAD_ENDS = 3,
+    /** A number is not above the one before it in its run. Place: its index. */
+    QUORUM_NOT_RISING = 4,
+    /** An answer is due and the answer buffer is full. Place: parts written. */
+    QUORUM_ANSWERS_FULL = 5,
+    /** A part is due and does not fit the certificate buffer. Place: parts written. */
+    QUORUM_CERTIFICATE_FULL = 6,
+    /** A probe is due and the allowance is used up. Place: parts written. */
+    QUORUM_ALLOWANCE_SPENT = 7,
+    /**
+     * A field is cut short, its tag is unknown or its length is not the tag's.
+     * The place of 8 to 11 is the offset of the field's tag.
+     */
+    QUORUM_BAD_FIELD = 8,
+    /**
+     * A part does not begin at the next uncovered bin, its last is below its
+     * first, or nothing is uncovered. Or, at the end, a bin is still uncovered;
+     * place: the certificate's length.
+     */
+    QUORUM_NOT_COVERING = 9,
+    /** A mask names a run that does not exist, or too few runs. */
+    QUORUM_BAD_MASK = 10,
+    /** A named run contradicts its part. */
+    QUORUM_CONTRADICTED = 11
 };
 
 /**
- * Write the numbers that at least `threshold` runs hold to `answers`, rising,
- * and to `certificate` the parts that show them to be all.
+ * The places in the result rows. A row that has a refusal has it first, 0 if
+ * there is none, and then its place, 0 if there is none.
+ */
+enum {
+    QUORUM_REFUSAL = 0,
+    QUORUM_PLACE = 1,
+
+    QUORUM_QUERY_ANSWERS = 2,
+    QUORUM_QUERY_PARTS = 3,
+    QUORUM_QUERY_BYTES = 4,
+    QUORUM_QUERY_PROBES = 5,
+    QUORUM_QUERY_ROW = 6,
+
+    QUORUM_CHECK_ANSWERS = 2,
+    QUORUM_CHECK_PARTS = 3,
+    QUORUM_CHECK_ROW = 4,
+
+    QUORUM_BETWEEN_START = 0,
+    QUORUM_BETWEEN_END = 1,
+    QUORUM_BETWEEN_ROW = 2,
+
+    QUORUM_BOUND_PROBES = 2,
+    QUORUM_BOUND_ROW = 3
+};
+
+/**
+ * Write the bins that at least `threshold` runs hold to `answers`, rising, and
+ * to `certificate` the parts that show them to be all.
  *
- * `result` receives the refusal and its place, both 0 if the query is accepted,
- * then the answers, parts and certificate bytes written and the probes made.
- * After refusals 5 to 7 what was written stands; 1 to 4 write nothing. Later
- * places of both buffers are unchanged. For n numbers, n answers and 34n + 19
- * bytes are always enough: then 5 and 6 never occur (proved: `room-enough`).
+ * `result` receives refusal and place, then the answers, parts and certificate
+ * bytes written and the probes made. After refusals 5 to 7 the whole parts and
+ * answers written before stand; 1 to 4 write nothing, and their counts are 0.
+ * Later places of both buffers are unchanged, also of an accepted query.
  *
- * Cost: one pass over the numbers for the first checks. Then, in a run whose
- * length has b binary digits, at most 2 * d * b probes, d being the number of
- * parts of any true certificate; quorum_probe_bound() sums this up. The
- * certificate written has the fewest parts of all true ones.
+ * The allowance: in a run whose length has b binary digits (an empty run has 0)
+ * the query makes at most 2 * d * b probes, d being the number of parts of any
+ * true certificate; quorum_probe_bound() sums this up. If nothing is known of d,
+ * take QUORUM_ENOUGH_PROBES.
  *
- * Example: the numbers in two of {2, 5, 9}, {5, 7, 9, 12} and {1, 9}.
+ * Cost: one pass over the numbers for the first checks, then the probes and one
+ * part for each part of the certificate, which has the fewest of all true ones.
+ *
+ * Example: the bins in two of {2, 5, 9}, {5, 7, 9, 12} and {1, 9}.
  *
  *     uint32_t numbers[] = {2, 5, 9, 5, 7, 9, 12, 1, 9}, ends[] = {3, 7, 9};
- *     uint32_t answers[9];
- *     uint8_t certificate[325];
- *     uint64_t result[6];
- *     quorum_query(numbers, 9, ends, 3, 2, 100, answers, 9, certificate, 325, result);
+ *     uint32_t answers[QUORUM_ENOUGH_ANSWERS(9)];
+ *     uint8_t certificate[QUORUM_ENOUGH_BYTES(9)];
+ *     uint64_t result[QUORUM_QUERY_ROW];
+ *     quorum_query(numbers, 9, ends, 3, 2, QUORUM_ENOUGH_PROBES,
+ *                  answers, 9, certificate, sizeof certificate, result);
  *     // result: 0, 0, 2, 6, 106, 3; answers: 5, 9
  */
 void quorum_query(const uint32_t *numbers, size_t numbers_len,
                   const uint32_t *ends, size_t ends_len, uint32_t threshold,
                   uint32_t allowance, uint32_t *answers, size_t answers_len,
                   uint8_t *certificate, size_t certificate_len,
-                  uint64_t result[6]);
+                  uint64_t result[QUORUM_QUERY_ROW]);
 
 /**
  * Decide whether a certificate is true for the runs and `threshold`, whoever
  * wrote it.
  *
- * `result` receives the refusal and its place, both 0 if the certificate is
- * true, then its answers and parts, both 0 on a refusal. Each field is settled
- * before the next, so the refusal is that of the first wrong one.
+ * `result` receives refusal and place, then the certificate's answers and parts,
+ * both 0 on a refusal. Each field is settled before the next, so the refusal is
+ * that of the first wrong one.
  *
  * Cost: one pass over the numbers for the first checks, then at most
  * numbers + parts * runs steps.
  *
  * Example, after the one above:
  *
- *     uint64_t verdict[4];
- *     quorum_check(numbers, 9, ends, 3, 2, certificate, result[QUORUM_BYTES], verdict);
+ *     uint64_t verdict[QUORUM_CHECK_ROW];
+ *     quorum_check(numbers, 9, ends, 3, 2,
+ *                  certificate, result[QUORUM_QUERY_BYTES], verdict);
  *     // verdict: 0, 0, 2, 6
  */
 void quorum_check(const uint32_t *numbers, size_t numbers_len,
                   const uint32_t *ends, size_t ends_len, uint32_t threshold,
                   const uint8_t *certificate, size_t certificate_len,
-                  uint64_t result[4]);
+                  uint64_t result[QUORUM_CHECK_ROW]);
 
 /**
  * Find the numbers of one list from `first` to `last`, both included.
@@ -128,32 +211,31 @@ void quorum_check(const uint32_t *numbers, size_t numbers_len,
  * Example:
  *
  *     uint32_t list[] = {2, 5, 9};
- *     uint64_t part[2];
+ *     uint64_t part[QUORUM_BETWEEN_ROW];
  *     quorum_between(list, 3, 3, 9, part);
  *     // part: 1, 3
  */
 void quorum_between(const uint32_t *list, size_t list_len, uint32_t first,
-                    uint32_t last, uint64_t part[2]);
+                    uint32_t last, uint64_t part[QUORUM_BETWEEN_ROW]);
 
 /**
  * Sum up 2 * parts * (binary digits of the run's length) over the runs. If some
- * true certificate has so many parts, an allowance of this many probes never
- * ends as used up.
+ * true certificate has so many parts, an allowance of this many probes is never
+ * used up.
  *
- * `result` receives the refusal and its place, both 0 if there is none, and the
- * bound, 0 on a refusal: 1 and 3 as above, but for the numbers' length.
+ * `result` receives refusal and place, and the bound, 0 on a refusal: 1 and 3 as
+ * above, but for the numbers' length, which this call does not see.
  *
  * Cost: one pass over the ends.
  *
  * Example: runs of 3, 4 and 2 numbers, whose lengths have 2, 3 and 2 digits.
  *
- *     uint32_t ends[] = {3, 7, 9};
- *     uint64_t result[3];
- *     quorum_probe_bound(ends, 3, 6, result);
- *     // result: 0, 0, 84
+ *     uint64_t bound[QUORUM_BOUND_ROW];
+ *     quorum_probe_bound(ends, 3, 6, bound);
+ *     // bound: 0, 0, 84
  */
 void quorum_probe_bound(const uint32_t *ends, size_t ends_len, uint32_t parts,
-                        uint64_t result[3]);
+                        uint64_t result[QUORUM_BOUND_ROW]);
 
 #ifdef __cplusplus
 }
