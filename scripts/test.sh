@@ -1,12 +1,15 @@
 #!/usr/bin/env bash
-# The whole test: layout, the names in docs/CLAIMS.md, proofs with their must-fail edits and programs, then the program hits on stored and on many
-# generated inputs, and the static library from C and from Rust. The last line is the prover's own tally, printed again only if everything else passed too.
+# The whole test: layout, the names in docs/CLAIMS.md and docs/SPECIFICATION.md and the sections that files cite, proofs with their must-fail edits and programs,
+# then the program hits on stored and on many generated inputs, the static library from C and from Rust, and the scripts. The last line is the prover's own tally,
+# printed again only if everything else passed too.
 set -euo pipefail
 cd "$(dirname "$0")/.."
 
 rt fmt --check
 bash scripts/check_layout.sh
-bash scripts/check_claims.sh
+bash scripts/check_claims.sh docs/CLAIMS.md
+bash scripts/check_claims.sh docs/SPECIFICATION.md
+bash scripts/check_citations.sh
 
 log=$(mktemp)
 trap 'rm -f "$log"' EXIT
@@ -22,5 +25,6 @@ rt staticlib quorum
 sh examples/test.sh
 sh examples/hits/test.sh
 (cd rust && cargo fmt --check && cargo test --release --offline --quiet)
+bash scripts/test_scripts.sh
 
 printf '%s\n' "$tally"
