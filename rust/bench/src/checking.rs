@@ -2,7 +2,7 @@
 
 use crate::inputs::{self, Input, NUMBERS};
 use crate::{median, timed};
-use quorum::Outcome;
+use quorum::Checked;
 use std::time::Duration;
 
 const RUNS: usize = 64;
@@ -55,22 +55,21 @@ fn measure(
     let mut times: [Vec<Duration>; 2] = Default::default();
     let mut parts = 0;
     for _ in 0..repetitions {
-        let (time, outcome) = timed(numbers, || {
+        let (time, result) = timed(numbers, || {
             quorum::query(numbers, ends, threshold, u32::MAX, answers, certificate)
         });
-        let Outcome::Accepted(counts) = outcome else {
-            panic!("{outcome:?}");
-        };
+        let counts = result.expect("no limit is reached");
         times[0].push(time);
 
         let written = &certificate[..counts.bytes];
-        let (time, verdict) = timed(numbers, || quorum::check(numbers, ends, threshold, written));
-        let quorum::Verdict::Valid { answers, parts: n } = verdict else {
-            panic!("{verdict:?}");
+        let (time, result) = timed(numbers, || quorum::check(numbers, ends, threshold, written));
+        let expected = Checked {
+            answers: counts.answers,
+            parts: counts.parts,
         };
-        assert_eq!((answers, n), (counts.answers, counts.parts));
+        assert_eq!(result, Ok(expected));
         times[1].push(time);
-        parts = n;
+        parts = counts.parts;
     }
     (parts, times.map(median))
 }

@@ -14,7 +14,6 @@ mod inputs;
 mod ordered;
 
 use inputs::{Input, NUMBERS};
-use quorum::Outcome;
 use std::hint::black_box;
 use std::process::ExitCode;
 use std::time::{Duration, Instant};
@@ -186,12 +185,10 @@ impl Buffers {
         let mut times: [Vec<Duration>; 6] = Default::default();
         let mut counts = None;
         for _ in 0..repetitions {
-            let (time, outcome) = timed(numbers, || {
+            let (time, result) = timed(numbers, || {
                 quorum::query(numbers, ends, t, u32::MAX, library_answers, library_bytes)
             });
-            let Outcome::Accepted(library) = outcome else {
-                panic!("{outcome:?}");
-            };
+            let library = result.expect("no limit is reached");
             times[0].push(time);
 
             let (time, outcome) = timed(numbers, || {
