@@ -1,7 +1,9 @@
-//! Certificates: true ones of many forms, and damaged ones.
+//! Certificates: true ones of many forms, damaged ones and noise, and what both
+//! sides read in them.
 
+use quorum::Refusal;
 use reference::testing::{Random, M};
-use reference::Part;
+use reference::{decode, Part};
 
 /// Runs and a threshold that pass the first checks.
 #[derive(Clone, Copy)]
@@ -332,4 +334,67 @@ pub fn damage_bytes(random: &mut Random, bytes: &mut Vec<u8>) {
             bytes.splice(at..at, piece);
         }
     }
+}
+
+/// Fields of any content, with a few tags and lengths that are wrong.
+pub fn any_fields(random: &mut Random) -> Vec<u8> {
+    let mut bytes = Vec::new();
+    for _ in 0..random.below(7) {
+        let (tag, length) = match random.below(12) {
+            0 => (random.word() as u8, random.pick(&[0, 12, 16])),
+            1 => (random.pick(&[1, 2]), random.below(300) as u16),
+            2 => random.pick(&[(1, 16), (2, 12), (1, 12 << 8), (2, 16 << 8)]),
+            n if n % 2 == 0 => (1, 12),
+            _ => (2, 16),
+        };
+        bytes.push(tag);
+        bytes.extend(length.to_le_bytes());
+        bytes.extend((0..length).map(|_| random.word() as u8));
+    }
+    if random.one_in(4) {
+        bytes.truncate(random.below(bytes.len() + 1));
+    }
+    bytes
+}
+
+/// Reads the parts on both sides and compares them, with the offset of a field
+/// that cannot be read and what comes before and after it. Returns what was
+/// read.
+pub fn compare_parts(seed: u64, bytes: &[u8]) -> Result<Vec<quorum::Part>, Refusal> {
+    let context = || format!("seed {seed}: {bytes:?}");
+    let items: Vec<Result<quorum::Part, Refusal>> = quorum::parts(bytes).collect();
+    assert_eq!(items, read_each(bytes), "{}", context());
+    let read: Result<Vec<_>, _> = items.into_iter().collect();
+    let decoded = decode(bytes).map(|parts| parts.into_iter().map(part_of).collect());
+    assert_eq!(read.as_ref().ok(), decoded.as_ref(), "{}", context());
+    read
+}
+
+/// The reference's part in the terms of `quorum`.
+fn part_of(part: Part) -> quorum::Part {
+    match part {
+        Part::Answer { value, mask } => quorum::Part::Answer { value, mask },
+        Part::Gap { first, last, mask } => quorum::Part::Gap { first, last, mask },
+    }
+}
+
+/// The parts as the reference reads each field by itself, and last a refusal if
+/// it cannot read one.
+fn read_each(bytes: &[u8]) -> Vec<Result<quorum::Part, Refusal>> {
+    let mut items = Vec::new();
+    let mut offset = 0;
+    while offset < bytes.len() {
+        let single = |size: usize| match decode(bytes.get(offset..offset + size)?)?[..] {
+            [part] => Some((part, size)),
+            _ => None,
+        };
+        let Some((part, size)) = single(15).or_else(|| single(19)) else {
+            let (number, place) = (8, offset as u64);
+            items.push(Err(Refusal { number, place }));
+            break;
+        };
+        items.push(Ok(part_of(part)));
+        offset += size;
+    }
+    items
 }

@@ -1,7 +1,7 @@
 //! One query asked of both sides, with all that they return and write.
 
 use crate::Row;
-use quorum::{Counts, Outcome, Refusal};
+use quorum::{Counts, Refusal, Stopped};
 use reference::testing::Random;
 use std::fmt;
 
@@ -47,7 +47,7 @@ impl fmt::Debug for Question<'_> {
 }
 
 /// The reference's outcome in the terms of `quorum`.
-pub fn outcome_of(outcome: reference::Outcome) -> Outcome {
+pub fn result_of(outcome: reference::Outcome) -> Result<Counts, Stopped> {
     let [number, place, answers, parts, bytes, probes] = row_of(outcome);
     let counts = Counts {
         answers: answers as usize,
@@ -56,8 +56,11 @@ pub fn outcome_of(outcome: reference::Outcome) -> Outcome {
         probes,
     };
     match number {
-        0 => Outcome::Accepted(counts),
-        _ => Outcome::Refused(Refusal { number, place }, counts),
+        0 => Ok(counts),
+        _ => Err(Stopped {
+            refusal: Refusal { number, place },
+            counts,
+        }),
     }
 }
 
@@ -124,7 +127,7 @@ pub struct Comparer {
     expected: Buffers,
     /// How many questions ended with each refusal; 0 stands for accepted.
     pub seen: [u64; 8],
-    /// Compare the rows of the C interface and not the outcomes.
+    /// Compare the rows of the C interface and not the results.
     rows: bool,
 }
 
@@ -174,8 +177,8 @@ impl Comparer {
             let row = quorum::ffi::query(numbers, ends, threshold, allowance, answers, certificate);
             assert_eq!(row, row_of(expected), "{}", context());
         } else {
-            let outcome = quorum::query(numbers, ends, threshold, allowance, answers, certificate);
-            assert_eq!(outcome, outcome_of(expected), "{}", context());
+            let result = quorum::query(numbers, ends, threshold, allowance, answers, certificate);
+            assert_eq!(result, result_of(expected), "{}", context());
         }
         let place = difference(&self.found.answers, &self.expected.answers);
         assert_eq!(place, None, "answers, {}", context());

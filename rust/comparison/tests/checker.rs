@@ -1,11 +1,11 @@
 //! The checker: true certificates of every form and damaged ones.
 
 use comparison::broken::{any_threshold, break_rows};
-use comparison::certificates::{damage_bytes, Task};
+use comparison::certificates::{compare_parts, damage_bytes, Task};
 use comparison::question::Question;
 use comparison::seeds;
 use comparison::shapes::{any_runs, shaped_runs, Shape, SHAPES};
-use quorum::{Refusal, Verdict};
+use quorum::{Checked, Refusal};
 use reference::testing::{gap, hit, lay_out, slices, Random, M, THREE_RUNS};
 use reference::{decode, encode, is_true, trace, Part};
 
@@ -24,8 +24,8 @@ impl Seen {
         assert!(numbers.iter().all(|&i| seen[i] >= times), "{seen:?}");
     }
 
-    /// Compares the verdicts and rows of both sides. Returns the refusal's
-    /// number, 0 for a true certificate.
+    /// Compares the verdicts and rows of both sides, and the parts that they
+    /// read. Returns the refusal's number, 0 for a true certificate.
     fn compare(&mut self, seed: u64, question: Question, bytes: &[u8]) -> u64 {
         let Question {
             numbers,
@@ -33,24 +33,32 @@ impl Seen {
             threshold,
         } = question;
         let context = || format!("seed {seed}: certificate {bytes:?}, {question:?}");
-        let (verdict, row) = match reference::check(numbers, ends, threshold, bytes) {
+        let (result, row) = match reference::check(numbers, ends, threshold, bytes) {
             reference::Verdict::Valid { answers, parts } => {
-                let valid = Verdict::Valid {
+                let checked = Checked {
                     answers: answers as usize,
                     parts: parts as usize,
                 };
-                (valid, [0, 0, answers, parts])
+                (Ok(checked), [0, 0, answers, parts])
             }
             reference::Verdict::Invalid { number, place } => {
                 let number = number.into();
                 let refusal = Refusal { number, place };
-                (Verdict::Invalid(refusal), [number, place, 0, 0])
+                (Err(refusal), [number, place, 0, 0])
             }
         };
         let found = quorum::check(numbers, ends, threshold, bytes);
-        assert_eq!(found, verdict, "{}", context());
+        assert_eq!(found, result, "{}", context());
         let found = quorum::ffi::check(numbers, ends, threshold, bytes);
         assert_eq!(found, row, "{}", context());
+        let is_answer = |part: &&quorum::Part| matches!(part, quorum::Part::Answer { .. });
+        let read = compare_parts(seed, bytes).map(|parts| Checked {
+            answers: parts.iter().filter(is_answer).count(),
+            parts: parts.len(),
+        });
+        if matches!(row[0], 0 | Refusal::BAD_FIELD) {
+            assert_eq!(read, result, "{}", context());
+        }
         self.0[row[0] as usize] += 1;
         row[0]
     }
@@ -258,7 +266,7 @@ fn every_mask() {
 
 #[test]
 fn instances() {
-    let refusal = |number, place| Verdict::Invalid(Refusal { number, place });
+    let refusal = |number, place| Err(Refusal { number, place });
     assert_eq!(quorum::check(&[7], &[1], 1, &[]), refusal(9, 0));
     assert_eq!(quorum::check(&[3, 3], &[2], 1, &[]), refusal(4, 1));
     assert_eq!(quorum::check(&[7; 65], &[0; 65], 1, &[]), refusal(1, 65));

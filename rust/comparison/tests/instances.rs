@@ -1,7 +1,6 @@
 //! The instances of document 01 with their answers, on both sides.
 
-use comparison::question::{outcome_of, Comparer, Limits, Question};
-use quorum::Outcome;
+use comparison::question::{result_of, Comparer, Limits, Question};
 use reference::encode;
 use reference::testing::{instances, lay_out, Instance, M};
 
@@ -23,7 +22,7 @@ fn expect(instance: &Instance, allowance: u32) {
     };
     Comparer::new().compare(0, question, limits);
     Comparer::of_rows().compare(0, question, limits);
-    let outcome = quorum::query(
+    let result = quorum::query(
         &numbers,
         &ends,
         instance.threshold,
@@ -31,8 +30,8 @@ fn expect(instance: &Instance, allowance: u32) {
         &mut answers,
         &mut certificate,
     );
-    assert_eq!(outcome, outcome_of(instance.outcome), "{name}");
-    let (Outcome::Accepted(counts) | Outcome::Refused(_, counts)) = outcome;
+    assert_eq!(result, result_of(instance.outcome), "{name}");
+    let counts = result.unwrap_or_else(|stopped| stopped.counts);
     assert_eq!(counts.parts, instance.parts.len(), "{name}");
     assert_eq!(answers[..counts.answers], instance.answers(), "{name}");
     assert_eq!(

@@ -41,6 +41,12 @@ extern "C" {
 }
 
 /// Returns refusal, place, answers, parts, bytes and probes.
+///
+/// ```
+/// let (mut answers, mut certificate) = ([0; 1], [0; 53]);
+/// let row = quorum::ffi::query(&[7, 9, 7], &[2, 3], 2, 0, &mut answers, &mut certificate);
+/// assert_eq!(row, [0, 0, 1, 3, 53, 0]);
+/// ```
 pub fn query(
     numbers: &[u32],
     ends: &[u32],
@@ -71,6 +77,11 @@ pub fn query(
 }
 
 /// Returns refusal, place, answers and parts.
+///
+/// ```
+/// // The certificate ends with every number uncovered.
+/// assert_eq!(quorum::ffi::check(&[7], &[1], 1, &[]), [9, 0, 0, 0]);
+/// ```
 pub fn check(numbers: &[u32], ends: &[u32], threshold: u32, certificate: &[u8]) -> [u64; 4] {
     let mut result = [u64::MAX; 4];
     // SAFETY: each pointer and length are those of one slice; only `result`
@@ -91,6 +102,10 @@ pub fn check(numbers: &[u32], ends: &[u32], threshold: u32, certificate: &[u8]) 
 }
 
 /// Returns the places of the list that the part has.
+///
+/// ```
+/// assert_eq!(quorum::ffi::between(&[2, 5, 9], 3, 9), 1..3);
+/// ```
 pub fn between(list: &[u32], first: u32, last: u32) -> Range<u64> {
     let mut part = [u64::MAX; 2];
     // SAFETY: as in `check`, with `part` for `result`.
@@ -99,6 +114,10 @@ pub fn between(list: &[u32], first: u32, last: u32) -> Range<u64> {
 }
 
 /// Returns refusal, place and bound.
+///
+/// ```
+/// assert_eq!(quorum::ffi::probe_bound(&[3, 7, 9], 6), [0, 0, 84]);
+/// ```
 pub fn probe_bound(ends: &[u32], parts: u32) -> [u64; 3] {
     let mut result = [u64::MAX; 3];
     // SAFETY: as in `check`.

@@ -1,80 +1,109 @@
 //! Which numbers do at least `t` of `k` rising lists hold? A safe wrapper of
-//! the library behind `include/quorum.h`.
-//!
-//! A *run* is a rising list of 32-bit numbers. All runs lie one after another
-//! in `numbers`, at most 1,048,576 of them, and `ends[i]` is the place after
-//! the last number of run `i`. There are 1 to 64 runs; a run may be empty.
-//! Bit `i` of a 64-bit mask names run `i`.
+//! the proved library behind `include/quorum.h`.
 //!
 //! * [`query()`] writes the numbers held often enough, with a certificate.
 //! * [`check()`] decides whether a certificate is true.
+//! * [`parts()`] reads a certificate.
 //! * [`between()`] finds the numbers of one list between two numbers.
-//! * [`probe_bound()`] gives an allowance of probes that is never used up.
+//! * [`probe_bound()`] gives an allowance of probes that is enough.
 //!
-//! No function panics, whatever the input. `build.rs` links the library.
+//! # Terms
+//!
+//! A *run* is a rising list of 32-bit numbers: each is above the one before it.
+//! A run may be empty. There are 1 to [`MAX_RUNS`] runs, counted from 0.
+//!
+//! All runs lie one after another in `numbers`, at most [`MAX_NUMBERS`] of them.
+//! The *end* of a run, `ends[i]`, is the place in `numbers` after its last
+//! number: run 0 is `numbers[..ends[0]]`, run 1 is `numbers[ends[0]..ends[1]]`,
+//! and the last end is `numbers.len()`. There are as many ends as runs, so no 0
+//! comes first as in a row of offsets.
+//!
+//! A *mask* is a 64-bit number that names runs: bit `i` is run `i`, bit 0 being
+//! the lowest.
+//!
+//! An *answer* is a number that at least `threshold` runs hold. A *certificate*
+//! shows which numbers are answers and that no other is. It is a row of bytes,
+//! one field for each [`Part`]; the parts cover every number from 0 to
+//! [`LAST_BIN`] once, in rising order. A part is either an answer, with a mask
+//! of runs that hold it, or a gap, with a mask of runs that have no number in
+//! it, so many that the others are fewer than `threshold`. An answer's mask, as
+//! [`query()`] writes it, names all the runs that hold it. Whoever has the runs
+//! can check a certificate, whoever wrote it.
+//!
+//! A *probe* is one comparison with a number in a search. Bounds on probes count
+//! the *binary digits* of a run's length: an empty run has 0 of them, a run of 4
+//! numbers 3.
+//!
+//! # Calls
+//!
+//! Every call returns for every input and none panics. All are re-entrant and
+//! keep no state, so threads may call them at the same time. They allocate
+//! nothing. The library is built for x86-64 Linux; `build.rs` links it.
+//!
+//! # Example
+//!
+//! The numbers in at least two of {2, 5, 9}, {5, 7, 9, 12} and {1, 9}:
 //!
 //! ```
-//! // Runs {2, 5, 9}, {5, 7, 9, 12} and {1, 9}.
+//! use quorum::{check, enough_answers, enough_bytes, parts, query, Part, ENOUGH_PROBES};
+//!
 //! let numbers = [2, 5, 9, 5, 7, 9, 12, 1, 9];
 //! let ends = [3, 7, 9];
-//! let (mut answers, mut certificate) = ([0; 9], [0; 325]);
-//! let outcome = quorum::query(&numbers, &ends, 2, 100, &mut answers, &mut certificate);
-//! let quorum::Outcome::Accepted(counts) = outcome else {
-//!     panic!("{outcome:?}");
-//! };
-//! assert_eq!(answers[..counts.answers], [5, 9]);
+//! let mut answers = vec![0; enough_answers(numbers.len())];
+//! let mut certificate = vec![0; enough_bytes(numbers.len())];
+//! let counts = query(&numbers, &ends, 2, ENOUGH_PROBES, &mut answers, &mut certificate)?;
+//! answers.truncate(counts.answers);
+//! certificate.truncate(counts.bytes);
+//! assert_eq!(answers, [5, 9]);
 //! assert_eq!((counts.parts, counts.bytes, counts.probes), (6, 106, 3));
+//!
+//! let checked = check(&numbers, &ends, 2, &certificate)?;
+//! assert_eq!((checked.answers, checked.parts), (2, 6));
+//!
+//! let mut lines = Vec::new();
+//! for part in parts(&certificate) {
+//!     let part = part?;
+//!     lines.push(part.to_string());
+//!     if let Part::Answer { value: 5, .. } = part {
+//!         // Runs 0 and 1 hold 5.
+//!         assert!(part.runs().eq([0, 1]));
+//!     }
+//! }
+//! assert_eq!(
+//!     lines,
+//!     ["gap 0 1 3", "gap 2 4 6", "hit 5 3", "gap 6 8 5", "hit 9 7", "gap 10 4294967295 5"]
+//! );
+//! # Ok::<(), Box<dyn std::error::Error>>(())
 //! ```
 
 #![deny(unsafe_code)]
 #![warn(missing_docs)]
 
+mod certificate;
 #[allow(unsafe_code)]
 pub mod ffi;
+mod limits;
+mod refusal;
 
-use std::fmt;
+pub use certificate::{parts, Part, Parts, Runs, ANSWER_SIZE, GAP_SIZE, TAG_ANSWER, TAG_GAP};
+pub use limits::{enough_answers, enough_bytes, ENOUGH_PROBES, LAST_BIN, MAX_NUMBERS, MAX_RUNS};
+pub use refusal::{Refusal, Stopped};
 
 /// The README's lines are compiled and run as a documentation test.
 #[cfg(doctest)]
 #[doc = include_str!("../../../README.md")]
 struct Readme;
 
-/// The ground of a refusal and where it was met.
-#[derive(Clone, Copy, Debug, PartialEq, Eq)]
-pub struct Refusal {
-    /// The number of the ground, which [`Display`](fmt::Display) puts in words.
-    pub number: u64,
-    /// Where it was met. For 1 and 2 the number of runs and the threshold; for
-    /// 3 and 4 an index in the ends (their count if the last is wrong) and in
-    /// the numbers; for 5 to 7 the number of parts written; from 8 on an offset
-    /// in the certificate.
-    pub place: u64,
-}
-
-impl fmt::Display for Refusal {
-    fn fmt(&self, f: &mut fmt::Formatter<'_>) -> fmt::Result {
-        let ground = match self.number {
-            1 => "no runs, or more than 64",
-            2 => "the threshold is 0 or above the number of runs",
-            3 => "the ends fall or do not fit the numbers",
-            4 => "a run does not rise",
-            5 => "the answer buffer is full",
-            6 => "the certificate buffer is full",
-            7 => "the allowance of probes is used up",
-            8 => "a field cannot be read",
-            9 => "a part does not begin at the next uncovered number",
-            10 => "a mask names too few runs or one too many",
-            11 => "a named run contradicts its part",
-            _ => "unknown",
-        };
-        write!(f, "refusal {} at {}: {ground}", self.number, self.place)
-    }
-}
-
-impl std::error::Error for Refusal {}
-
-/// What a query wrote and probed.
-#[derive(Clone, Copy, Debug, PartialEq, Eq)]
+/// What a query wrote and probed: the result of [`query()`], and in [`Stopped`].
+///
+/// ```
+/// // One run with no numbers: the certificate is one gap.
+/// let counts = quorum::query(&[], &[0], 1, 0, &mut [], &mut [0; 19])?;
+/// assert_eq!((counts.answers, counts.parts), (0, 1));
+/// assert_eq!((counts.bytes, counts.probes), (19, 0));
+/// # Ok::<(), quorum::Stopped>(())
+/// ```
+#[derive(Clone, Copy, Debug, Default, PartialEq, Eq, Hash)]
 pub struct Counts {
     /// The answers written.
     pub answers: usize,
@@ -86,63 +115,74 @@ pub struct Counts {
     pub probes: u64,
 }
 
-/// What [`query()`] returns.
-#[derive(Clone, Copy, Debug, PartialEq, Eq)]
-#[must_use]
-pub enum Outcome {
-    /// The answers and the certificate are whole.
-    Accepted(Counts),
-    /// The query stopped early. What the counts tell was written and stands:
-    /// nothing for refusals 1 to 4, the first parts and answers for 5 to 7.
-    Refused(Refusal, Counts),
-}
-
-/// What [`check()`] returns.
-#[derive(Clone, Copy, Debug, PartialEq, Eq)]
-#[must_use]
-pub enum Verdict {
-    /// The certificate is true.
-    Valid {
-        /// How many of its parts are answers.
-        answers: usize,
-        /// How many parts it has.
-        parts: usize,
-    },
-    /// The runs or the threshold are refused, or the certificate is not true.
-    Invalid(Refusal),
+/// What a true certificate has: the result of [`check()`], with an example.
+#[derive(Clone, Copy, Debug, PartialEq, Eq, Hash)]
+pub struct Checked {
+    /// How many of its parts are answers.
+    pub answers: usize,
+    /// How many parts it has.
+    pub parts: usize,
 }
 
 /// Writes the numbers that at least `threshold` of the runs hold to `answers`,
 /// rising, and to `certificate` the parts that show them to be all.
 ///
-/// A query that makes more than `allowance` probes, or fills a buffer, is
-/// refused; what it wrote stands. Later places of both buffers are unchanged.
-/// For n numbers, n answers and 34 × n + 19 bytes are always enough.
+/// An answer's mask names all the runs that hold it. No true certificate has
+/// fewer parts. Places of both buffers after what was written are unchanged.
+///
+/// # Errors
+///
+/// Refusals 1 to 4 of [`Refusal`], which leave both buffers as they were. And 5
+/// to 7 as soon as something more is due for which nothing is left: one more
+/// answer and the answer buffer is full, one more part and it does not fit the
+/// rest of the certificate buffer, one more probe and the allowance is used up.
+/// What was written before stands, and [`Stopped::counts`] tells how much. A
+/// query that exactly fills a buffer, or uses up its allowance, with nothing
+/// more due is accepted.
+///
+/// # Buffers
+///
+/// For n numbers, [`enough_answers(n)`](enough_answers) answers and
+/// [`enough_bytes(n)`](enough_bytes) bytes are always enough: n, and
+/// 34 × n + 19. Refusals 5 and 6 then never occur.
+///
+/// # Allowance
+///
+/// If nothing is known of the runs, and all their answers are wanted, take
+/// [`ENOUGH_PROBES`]: it is always enough, as is any larger allowance, such as
+/// `u32::MAX`. Refusal 7 then never occurs. For n numbers in all, 2 × n × b is
+/// enough too, b being the binary digits of n, and so is the sum of 2 × n × b
+/// over the runs, n being the numbers of the run: a search moves its run on by at
+/// least one number.
+///
+/// To limit the probes where similar runs took d parts, take
+/// [`probe_bound(ends, d)`](probe_bound()), or that of a multiple of d: a query
+/// that is then refused as [`ALLOWANCE_SPENT`](Refusal::ALLOWANCE_SPENT) has met
+/// runs whose every true certificate has more parts.
 ///
 /// # Cost
 ///
 /// One pass over `numbers` for the first checks. Then, in a run whose length
 /// has b binary digits, at most 2 × d × b probes, d being the parts of any true
-/// certificate. The walk's own has the fewest.
+/// certificate.
 ///
 /// # Example
 ///
 /// ```
-/// use quorum::{query, Outcome, Refusal};
+/// use quorum::{query, Refusal};
 ///
-/// let (mut answers, mut certificate) = ([0; 2], [0; 64]);
-/// let outcome = query(&[7, 9, 7], &[2, 3], 2, 0, &mut answers, &mut certificate);
-/// let Outcome::Accepted(counts) = outcome else {
-///     panic!("{outcome:?}");
-/// };
-/// assert_eq!(answers[..counts.answers], [7]);
+/// let (mut answers, mut certificate) = ([0; 1], [0; 53]);
+/// // {7, 9} and {7}: the one answer and its certificate fill both buffers.
+/// let counts = query(&[7, 9, 7], &[2, 3], 2, 0, &mut answers, &mut certificate)?;
+/// assert_eq!((counts.answers, counts.bytes), (1, 53));
+/// assert_eq!(answers, [7]);
 ///
-/// let outcome = query(&[3, 3], &[2], 1, 0, &mut answers, &mut certificate);
-/// let Outcome::Refused(refusal, _) = outcome else {
-///     panic!("{outcome:?}");
-/// };
-/// assert_eq!(refusal, Refusal { number: 4, place: 1 });
-/// assert_eq!(refusal.to_string(), "refusal 4 at 1: a run does not rise");
+/// // One of them at least holds 7, and one holds 9; there is room for one answer.
+/// let refused = query(&[7, 9, 7], &[2, 3], 1, 0, &mut answers, &mut certificate);
+/// let stopped = refused.unwrap_err();
+/// assert_eq!(stopped.refusal.number, Refusal::ANSWERS_FULL);
+/// assert_eq!((stopped.counts.answers, stopped.counts.parts), (1, 3));
+/// # Ok::<(), quorum::Stopped>(())
 /// ```
 pub fn query(
     numbers: &[u32],
@@ -151,7 +191,7 @@ pub fn query(
     allowance: u32,
     answers: &mut [u32],
     certificate: &mut [u8],
-) -> Outcome {
+) -> Result<Counts, Stopped> {
     let [number, place, answers, parts, bytes, probes] =
         ffi::query(numbers, ends, threshold, allowance, answers, certificate);
     let counts = Counts {
@@ -161,13 +201,22 @@ pub fn query(
         probes,
     };
     match number {
-        0 => Outcome::Accepted(counts),
-        _ => Outcome::Refused(Refusal { number, place }, counts),
+        0 => Ok(counts),
+        _ => Err(Stopped {
+            refusal: Refusal { number, place },
+            counts,
+        }),
     }
 }
 
 /// Decides whether `certificate` is true for the runs and `threshold`, whoever
-/// wrote it. If not, tells the first field that is wrong.
+/// wrote it.
+///
+/// # Errors
+///
+/// Refusals 1 to 4 of [`Refusal`] for the runs and the threshold. And 8 to 11 if
+/// the certificate is not true: the first field that is wrong, each being
+/// settled before the next.
 ///
 /// # Cost
 ///
@@ -177,24 +226,29 @@ pub fn query(
 /// # Example
 ///
 /// ```
-/// use quorum::{check, Refusal, Verdict};
+/// use quorum::{check, Refusal};
 ///
-/// // One gap from 0 to 4294967295 that run 0 misses.
-/// let mut certificate = [2, 16, 0, 0, 0, 0, 0, 255, 255, 255, 255, 1, 0, 0, 0, 0, 0, 0, 0];
-/// let valid = Verdict::Valid { answers: 0, parts: 1 };
-/// assert_eq!(check(&[], &[0], 1, &certificate), valid);
+/// // One gap from 0 to 4294967295 in which run 0 has no number.
+/// let certificate = [2, 16, 0, 0, 0, 0, 0, 255, 255, 255, 255, 1, 0, 0, 0, 0, 0, 0, 0];
+/// let checked = check(&[], &[0], 1, &certificate)?;
+/// assert_eq!((checked.answers, checked.parts), (0, 1));
 ///
-/// let refusal = Refusal { number: 11, place: 0 };
-/// assert_eq!(check(&[7], &[1], 1, &certificate), Verdict::Invalid(refusal));
+/// let refusal = Refusal { number: Refusal::CONTRADICTED, place: 0 };
+/// assert_eq!(check(&[7], &[1], 1, &certificate), Err(refusal));
+/// # Ok::<(), Refusal>(())
 /// ```
-pub fn check(numbers: &[u32], ends: &[u32], threshold: u32, certificate: &[u8]) -> Verdict {
-    let [number, place, answers, parts] = ffi::check(numbers, ends, threshold, certificate);
-    match number {
-        0 => Verdict::Valid {
+pub fn check(
+    numbers: &[u32],
+    ends: &[u32],
+    threshold: u32,
+    certificate: &[u8],
+) -> Result<Checked, Refusal> {
+    match ffi::check(numbers, ends, threshold, certificate) {
+        [0, _, answers, parts] => Ok(Checked {
             answers: answers as usize,
             parts: parts as usize,
-        },
-        _ => Verdict::Invalid(Refusal { number, place }),
+        }),
+        [number, place, ..] => Err(Refusal { number, place }),
     }
 }
 
@@ -214,17 +268,25 @@ pub fn check(numbers: &[u32], ends: &[u32], threshold: u32, certificate: &[u8]) 
 /// assert_eq!(between(&[2, 5, 9], 6, 8), []);
 /// assert_eq!(between(&[9, 5, 2], 3, 9), []);
 /// ```
+#[must_use]
 pub fn between(list: &[u32], first: u32, last: u32) -> &[u32] {
     let places = ffi::between(list, first, last);
-    &list[places.start as usize..places.end as usize]
+    // The places always lie in the list, so the default is never taken.
+    list.get(places.start as usize..places.end as usize)
+        .unwrap_or_default()
 }
 
 /// Returns the sum over the runs of 2 × `parts` × the binary digits of the
-/// run's length. If a true certificate has so many parts, an allowance of this
-/// many probes is never used up.
+/// run's length, an empty run having 0 digits. If a true certificate has so many
+/// parts, an allowance of this many probes is enough.
 ///
-/// Refused are no ends or more than 64 (1), a falling end and a last end above
-/// 1,048,576 (both 3).
+/// [`ENOUGH_PROBES`] is enough for every query, so a sum above it, which may have
+/// more than an allowance's 32 bits, can be cut down to it.
+///
+/// # Errors
+///
+/// [`BAD_RUN_COUNT`](Refusal::BAD_RUN_COUNT), and [`BAD_ENDS`](Refusal::BAD_ENDS)
+/// for an end that is below the one before or a last end above [`MAX_NUMBERS`].
 ///
 /// # Cost
 ///
@@ -233,11 +295,17 @@ pub fn between(list: &[u32], first: u32, last: u32) -> &[u32] {
 /// # Example
 ///
 /// ```
-/// use quorum::{probe_bound, Refusal};
+/// use quorum::{probe_bound, Refusal, ENOUGH_PROBES};
 ///
 /// // Runs of 3, 4 and 2 numbers have lengths of 2, 3 and 2 digits.
-/// assert_eq!(probe_bound(&[3, 7, 9], 6), Ok(2 * 6 * (2 + 3 + 2)));
-/// assert_eq!(probe_bound(&[3, 2], 6), Err(Refusal { number: 3, place: 1 }));
+/// let bound = probe_bound(&[3, 7, 9], 6)?;
+/// assert_eq!(bound, 2 * 6 * (2 + 3 + 2));
+/// let allowance = bound.min(ENOUGH_PROBES.into()) as u32;
+/// assert_eq!(allowance, 84);
+///
+/// let refusal = Refusal { number: Refusal::BAD_ENDS, place: 1 };
+/// assert_eq!(probe_bound(&[3, 2], 6), Err(refusal));
+/// # Ok::<(), Refusal>(())
 /// ```
 pub fn probe_bound(ends: &[u32], parts: u32) -> Result<u64, Refusal> {
     match ffi::probe_bound(ends, parts) {

@@ -1,0 +1,171 @@
+//! The cases of both tables: a shape of input, a number of runs and a
+//! threshold.
+
+use crate::inputs::{self, Input};
+use std::fmt;
+
+/// One line of a table. [`Display`](fmt::Display) gives its name, as
+/// `dense k=8 t=2`.
+#[derive(Clone, Copy)]
+pub struct Case {
+    /// The name of the input's shape.
+    pub shape: &'static str,
+    input: fn(usize) -> Input,
+    /// The number of runs.
+    pub runs: usize,
+    /// How many runs must hold an answer.
+    pub threshold: usize,
+}
+
+impl fmt::Display for Case {
+    fn fmt(&self, f: &mut fmt::Formatter<'_>) -> fmt::Result {
+        write!(f, "{} k={} t={}", self.shape, self.runs, self.threshold)
+    }
+}
+
+/// A shape's name, its input of so many runs, and the numbers of runs that it is
+/// tried with.
+type Shape = (&'static str, fn(usize) -> Input, &'static [usize]);
+
+const QUERIED: [Shape; 5] = [
+    ("dense", inputs::dense, &[2, 8, 64]),
+    ("sparse", inputs::sparse, &[2, 8, 64]),
+    ("nearly disjoint", inputs::nearly_disjoint, &[2, 8, 64]),
+    ("blocks", inputs::blocks, &[2, 8, 64]),
+    ("skewed", |_| inputs::skewed(), &[2]),
+];
+
+const CHECKED: [Shape; 3] = [
+    ("dense", inputs::dense, &[64]),
+    ("sparse", inputs::sparse, &[64]),
+    ("nearly disjoint", inputs::nearly_disjoint, &[64]),
+];
+
+/// The cases of the first table, in which queries are timed.
+pub fn queried() -> Vec<Case> {
+    cases(&QUERIED, |k| {
+        let mut thresholds = vec![1, 2, k / 2, k];
+        thresholds.sort_unstable();
+        thresholds.dedup();
+        thresholds
+    })
+}
+
+/// The cases of the second table, in which checks are timed.
+pub fn checked() -> Vec<Case> {
+    cases(&CHECKED, |k| vec![1, 2, k / 2])
+}
+
+fn cases(shapes: &[Shape], thresholds: fn(usize) -> Vec<usize>) -> Vec<Case> {
+    let mut cases = Vec::new();
+    for &(shape, input, runs) in shapes {
+        for &runs in runs {
+            cases.extend(thresholds(runs).into_iter().map(|threshold| Case {
+                shape,
+                input,
+                runs,
+                threshold,
+            }));
+        }
+    }
+    cases
+}
+
+/// The cases with their inputs, each of which is made once for all cases that
+/// follow one another with it.
+pub fn with_inputs(cases: &[Case]) -> impl Iterator<Item = (&[Case], Input)> {
+    let groups = cases.chunk_by(|a, b| (a.shape, a.runs) == (b.shape, b.runs));
+    groups.map(|group| (group, (group[0].input)(group[0].runs)))
+}
+
+/// The cases of both tables that are measured.
+pub struct Selected {
+    /// Those of the first table.
+    pub queried: Vec<Case>,
+    /// Those of the second table.
+    pub checked: Vec<Case>,
+}
+
+/// Returns the cases whose names have the substring. If there are none, an
+/// error that lists all names. Each case of the second table is one of the first
+/// too.
+pub fn select(substring: &str) -> Result<Selected, String> {
+    let has = |case: &Case| case.to_string().contains(substring);
+    let select = |cases: Vec<Case>| cases.into_iter().filter(has).collect();
+    let selected = Selected {
+        queried: select(queried()),
+        checked: select(checked()),
+    };
+    if selected.queried.is_empty() {
+        let names: Vec<String> = queried().iter().map(Case::to_string).collect();
+        return Err(format!(
+            "no case has `{substring}` in its name; there are\n{}",
+            names.join("\n")
+        ));
+    }
+    Ok(selected)
+}
+
+#[cfg(test)]
+mod tests {
+    use super::*;
+
+    fn names(cases: &[Case]) -> Vec<String> {
+        cases.iter().map(Case::to_string).collect()
+    }
+
+    #[test]
+    fn all_cases() {
+        let all = select("").unwrap();
+        assert_eq!((all.queried.len(), all.checked.len()), (42, 9));
+        assert_eq!(
+            names(&all.queried)[..3],
+            ["dense k=2 t=1", "dense k=2 t=2", "dense k=8 t=1"]
+        );
+    }
+
+    #[test]
+    fn checked_cases_are_queried() {
+        let all = names(&queried());
+        assert!(names(&checked()).iter().all(|name| all.contains(name)));
+    }
+
+    #[test]
+    fn a_substring_selects() {
+        let some = select("dense k=64 t=").unwrap();
+        assert_eq!(
+            names(&some.queried),
+            [
+                "dense k=64 t=1",
+                "dense k=64 t=2",
+                "dense k=64 t=32",
+                "dense k=64 t=64"
+            ]
+        );
+        assert_eq!(
+            names(&some.checked),
+            ["dense k=64 t=1", "dense k=64 t=2", "dense k=64 t=32"]
+        );
+        let one = select("skewed k=2 t=2").unwrap();
+        assert_eq!(names(&one.queried), ["skewed k=2 t=2"]);
+        assert!(one.checked.is_empty());
+    }
+
+    #[test]
+    fn an_unknown_name_lists_all() {
+        let error = select("denser").err().unwrap();
+        let mut lines = error.lines();
+        assert_eq!(
+            lines.next(),
+            Some("no case has `denser` in its name; there are")
+        );
+        assert!(lines.eq(names(&queried())));
+    }
+
+    #[test]
+    fn one_input_for_neighbours() {
+        let cases = select("skewed").unwrap().queried;
+        let groups: Vec<usize> = with_inputs(&cases).map(|(group, _)| group.len()).collect();
+        assert_eq!(groups, [2]);
+    }
+}

@@ -1,0 +1,139 @@
+//! What the command line asks for.
+
+/// What an error is followed by.
+pub const USAGE: &str = "usage: bench [--only SUBSTRING] [--reps N] [--help]";
+
+/// What `--help` prints after the usage.
+pub const HELP: &str = "
+Times the library on 1,048,576 numbers beside other ways to the answers, and
+checks of certificates beside queries. Standard output has the two tables.
+
+  --only SUBSTRING  measure the cases whose name, as `dense k=8 t=2`, has this
+  --reps N          repetitions, 1 or more, of which the median counts; 9 if not given
+  --help            print this
+
+Columns of both tables:
+  case            shape of the input
+  k               number of runs
+  t               threshold
+  parts           parts of the certificate
+
+Columns of the first table, queries:
+  ns/number       time of the library for a number, in nanoseconds
+  lib/reference   time of the library divided by that of the reference walk
+  lib/same        the same for the library's own way in Rust
+  lib/heap        the same for a heap merge that takes each head out and puts the next in
+  lib/top         the same for a heap merge that puts the next head in the place of the top
+  lib/sort        the same for sorting all numbers and counting equal ones
+  keys/(k log k)  comparisons of keys in a round, divided by k times the logarithm of k
+                  to base 2: the mean, counted in the library's own way in Rust
+The heap merges and the sort neither check their input nor write a certificate.
+
+Columns of the second table, checks of the certificate that the query wrote:
+  query ms        time of the query, in milliseconds
+  check ms        time of the check, in milliseconds
+  check/query     time of the check divided by that of the query
+";
+
+/// What is measured, and how often.
+#[derive(Debug, PartialEq, Eq)]
+pub struct Options {
+    /// Only cases whose names have this.
+    pub only: String,
+    /// The repetitions of each case, at least 1.
+    pub repetitions: usize,
+}
+
+/// What the command line asks for.
+#[derive(Debug, PartialEq, Eq)]
+pub enum Request {
+    /// To print the help.
+    Help,
+    /// To measure.
+    Measure(Options),
+}
+
+/// Reads the words after the program's name. The error tells which word is
+/// wrong.
+pub fn read(words: impl IntoIterator<Item = String>) -> Result<Request, String> {
+    let mut options = Options {
+        only: String::new(),
+        repetitions: 9,
+    };
+    let mut words = words.into_iter();
+    while let Some(word) = words.next() {
+        let mut value = || words.next().ok_or(format!("`{word}` needs a value"));
+        match word.as_str() {
+            "--help" => return Ok(Request::Help),
+            "--only" => options.only = value()?,
+            "--reps" => {
+                let value = value()?;
+                let repetitions = value.parse().ok().filter(|&n| n > 0);
+                options.repetitions =
+                    repetitions.ok_or(format!("`{value}` is no number of repetitions"))?;
+            }
+            _ => return Err(format!("`{word}` is unknown")),
+        }
+    }
+    Ok(Request::Measure(options))
+}
+
+#[cfg(test)]
+mod tests {
+    use super::*;
+
+    fn read_line(line: &str) -> Result<Request, String> {
+        read(line.split_whitespace().map(str::to_string))
+    }
+
+    fn measure(only: &str, repetitions: usize) -> Result<Request, String> {
+        let only = only.to_string();
+        Ok(Request::Measure(Options { only, repetitions }))
+    }
+
+    #[test]
+    fn defaults() {
+        assert_eq!(read_line(""), measure("", 9));
+    }
+
+    #[test]
+    fn both_options_in_any_order() {
+        assert_eq!(read_line("--only dense"), measure("dense", 9));
+        assert_eq!(read_line("--reps 3"), measure("", 3));
+        assert_eq!(read_line("--only t=2 --reps 1"), measure("t=2", 1));
+        assert_eq!(read_line("--reps 1 --only t=2"), measure("t=2", 1));
+        let words = ["--only", "dense k=8 t=2"].map(str::to_string);
+        assert_eq!(read(words), measure("dense k=8 t=2", 9));
+    }
+
+    #[test]
+    fn the_last_of_two_counts() {
+        assert_eq!(read_line("--reps 3 --reps 5"), measure("", 5));
+    }
+
+    #[test]
+    fn help() {
+        assert_eq!(read_line("--help"), Ok(Request::Help));
+        assert_eq!(read_line("--reps 3 --help"), Ok(Request::Help));
+    }
+
+    #[test]
+    fn errors() {
+        for (line, error) in [
+            ("--reps 0", "`0` is no number of repetitions"),
+            ("--reps -1", "`-1` is no number of repetitions"),
+            ("--reps nine", "`nine` is no number of repetitions"),
+            (
+                "--reps 99999999999999999999",
+                "`99999999999999999999` is no number of repetitions",
+            ),
+            ("--reps", "`--reps` needs a value"),
+            ("--only", "`--only` needs a value"),
+            ("dense", "`dense` is unknown"),
+            ("--runs 3", "`--runs` is unknown"),
+            ("--only dense sparse", "`sparse` is unknown"),
+        ] {
+            assert_eq!(read_line(line), Err(error.to_string()));
+        }
+    }
+}

@@ -1,0 +1,72 @@
+//! The limits of a query, and what is always enough for one.
+
+use crate::certificate::{ANSWER_SIZE, GAP_SIZE};
+
+/// The most runs of a query: one for each bit of a mask.
+///
+/// ```
+/// assert_eq!(quorum::MAX_RUNS, 64);
+/// ```
+pub const MAX_RUNS: usize = 64;
+
+/// The most numbers of all runs together.
+///
+/// ```
+/// assert_eq!(quorum::MAX_NUMBERS, 1_048_576);
+/// ```
+pub const MAX_NUMBERS: usize = 1_048_576;
+
+/// The last bin, which is the largest number that a run can hold. The parts of
+/// a certificate cover the bins from 0 to this one.
+///
+/// ```
+/// assert_eq!(quorum::LAST_BIN, 4_294_967_295);
+/// ```
+pub const LAST_BIN: u32 = u32::MAX;
+
+/// An allowance that is enough for any runs: refusal
+/// [`ALLOWANCE_SPENT`](crate::Refusal::ALLOWANCE_SPENT) never occurs with it, nor
+/// with a larger one such as `u32::MAX`.
+///
+/// A search moves its run on by at least one number. So in a run of n numbers
+/// there are at most n searches, each of at most 2 × b probes, b being the
+/// binary digits of n: the sum of 2 × n × b over the runs is enough (proved). So
+/// is 2 × n × b for the n numbers of all runs together, which is no smaller; this
+/// is that number for [`MAX_NUMBERS`].
+///
+/// ```
+/// use quorum::{ENOUGH_PROBES, MAX_NUMBERS};
+///
+/// let digits = usize::BITS - MAX_NUMBERS.leading_zeros();
+/// assert_eq!(ENOUGH_PROBES, 2 * MAX_NUMBERS as u32 * digits);
+/// ```
+pub const ENOUGH_PROBES: u32 = 44_040_192;
+
+/// A length of the answer buffer that is enough for any runs of so many
+/// numbers: refusal [`ANSWERS_FULL`](crate::Refusal::ANSWERS_FULL) never occurs
+/// (proved).
+///
+/// ```
+/// assert_eq!(quorum::enough_answers(9), 9);
+/// ```
+pub const fn enough_answers(numbers: usize) -> usize {
+    numbers
+}
+
+/// A length of the certificate buffer that is enough for any runs of so many
+/// numbers, 34 × `numbers` + 19: refusal
+/// [`CERTIFICATE_FULL`](crate::Refusal::CERTIFICATE_FULL) never occurs (proved).
+/// `usize::MAX` stands for a length above it, of more numbers than a query
+/// takes.
+///
+/// There may be a gap and an answer for each number, and a gap at the end.
+///
+/// ```
+/// let mut certificate = [0; quorum::enough_bytes(9)];
+/// assert_eq!(certificate.len(), 325);
+/// ```
+pub const fn enough_bytes(numbers: usize) -> usize {
+    numbers
+        .saturating_mul(GAP_SIZE + ANSWER_SIZE)
+        .saturating_add(GAP_SIZE)
+}

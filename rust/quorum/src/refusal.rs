@@ -1,0 +1,192 @@
+//! Why a call is refused, and what a refused query wrote before.
+
+use crate::Counts;
+use std::error::Error;
+use std::fmt;
+
+/// The ground of a refusal and where it was met.
+///
+/// ```
+/// use quorum::{query, Refusal};
+///
+/// let (mut answers, mut certificate) = ([0; 2], [0; 87]);
+/// let stopped = query(&[3, 3], &[2], 1, 0, &mut answers, &mut certificate).unwrap_err();
+/// let refusal = stopped.refusal;
+/// assert_eq!((refusal.number, refusal.place), (Refusal::NOT_RISING, 1));
+/// assert_eq!(
+///     refusal.to_string(),
+///     "refusal 4 at 1: a number is not above the one before it in its run"
+/// );
+/// ```
+#[derive(Clone, Copy, Debug, PartialEq, Eq, Hash)]
+pub struct Refusal {
+    /// The number of the ground: one of the constants of this type.
+    pub number: u64,
+    /// Where it was met: each constant tells what this counts.
+    pub place: u64,
+}
+
+/// The numbers of the grounds.
+///
+/// [`query()`](crate::query()) and [`check()`](crate::check()) test 1 to 4 first
+/// and in this order. 5 to 7 end a query, and 8 to 11 a check, where one of them
+/// is first met. [`probe_bound()`](crate::probe_bound()) tests 1 and 3,
+/// [`parts()`](crate::parts()) 8.
+///
+/// ```
+/// use quorum::{query, Refusal};
+///
+/// let (mut answers, mut certificate) = ([0; 1], [0; 87]);
+/// match query(&[7, 9, 7], &[2, 3], 1, 0, &mut answers, &mut certificate) {
+///     Ok(counts) => println!("{} answers", counts.answers),
+///     Err(stopped) => match stopped.refusal.number {
+///         Refusal::ALLOWANCE_SPENT => println!("the allowance is too small"),
+///         Refusal::ANSWERS_FULL | Refusal::CERTIFICATE_FULL => println!("a buffer is too small"),
+///         _ => println!("{stopped}"),
+///     },
+/// }
+/// ```
+impl Refusal {
+    /// There are no runs, or more than [`MAX_RUNS`](crate::MAX_RUNS). The place
+    /// is the number of runs.
+    pub const BAD_RUN_COUNT: u64 = 1;
+
+    /// The threshold is 0 or above the number of runs. The place is the
+    /// threshold.
+    pub const BAD_THRESHOLD: u64 = 2;
+
+    /// An end is below the one before, the place being its index. Or the last
+    /// end is not the number of numbers or is above
+    /// [`MAX_NUMBERS`](crate::MAX_NUMBERS), the place being the number of runs;
+    /// [`probe_bound()`](crate::probe_bound()), which is lent no numbers, tests
+    /// only the latter.
+    pub const BAD_ENDS: u64 = 3;
+
+    /// A number is not above the one before it in its run. The place is its
+    /// index in the numbers.
+    pub const NOT_RISING: u64 = 4;
+
+    /// One more answer is due and the answer buffer is full. The place is the
+    /// number of parts written.
+    pub const ANSWERS_FULL: u64 = 5;
+
+    /// One more part is due and does not fit the rest of the certificate
+    /// buffer. The place is the number of parts written.
+    pub const CERTIFICATE_FULL: u64 = 6;
+
+    /// One more probe is due and the allowance is used up. The place is the
+    /// number of parts written.
+    pub const ALLOWANCE_SPENT: u64 = 7;
+
+    /// A field of the certificate is cut short, its tag is unknown or its
+    /// length is not the tag's. The place is the offset of its tag.
+    pub const BAD_FIELD: u64 = 8;
+
+    /// A part does not begin at the next uncovered number, its last number is
+    /// below its first, or nothing is uncovered before it, the place being the
+    /// offset of its tag. Or, at the certificate's end, a number is still
+    /// uncovered, the place being the certificate's length.
+    pub const NOT_COVERING: u64 = 9;
+
+    /// A mask names a run that does not exist, or too few runs. The place is
+    /// the offset of the part's tag.
+    pub const BAD_MASK: u64 = 10;
+
+    /// A named run contradicts its part: it does not hold the answer, or it has
+    /// a number in the gap. The place is the offset of the part's tag.
+    pub const CONTRADICTED: u64 = 11;
+}
+
+impl fmt::Display for Refusal {
+    fn fmt(&self, f: &mut fmt::Formatter<'_>) -> fmt::Result {
+        let ground = match self.number {
+            Refusal::BAD_RUN_COUNT => "no runs, or more than 64",
+            Refusal::BAD_THRESHOLD => "the threshold is 0 or above the number of runs",
+            Refusal::BAD_ENDS => {
+                "an end is below the one before, or the last end is not the number of numbers \
+                 or is above 1,048,576"
+            }
+            Refusal::NOT_RISING => "a number is not above the one before it in its run",
+            Refusal::ANSWERS_FULL => "one more answer is due and the answer buffer is full",
+            Refusal::CERTIFICATE_FULL => {
+                "one more part is due and does not fit the rest of the certificate buffer"
+            }
+            Refusal::ALLOWANCE_SPENT => "one more probe is due and the allowance is used up",
+            Refusal::BAD_FIELD => {
+                "a field is cut short, its tag is unknown or its length is not the tag's"
+            }
+            Refusal::NOT_COVERING => {
+                "a part does not begin at the next uncovered number, its last number is below \
+                 its first, or nothing is uncovered before it; or, at the certificate's end, a \
+                 number is still uncovered"
+            }
+            Refusal::BAD_MASK => "a mask names a run that does not exist, or too few runs",
+            Refusal::CONTRADICTED => "a named run contradicts its part",
+            _ => "an unknown ground",
+        };
+        write!(f, "refusal {} at {}: {ground}", self.number, self.place)
+    }
+}
+
+impl Error for Refusal {}
+
+/// What a refused query returns: why it stopped, and what it wrote before.
+///
+/// `?` turns it into its [`Refusal`] where that is the error of the function.
+///
+/// ```
+/// use quorum::{query, Refusal};
+///
+/// let (mut answers, mut certificate) = ([0; 9], [0; 325]);
+/// let (numbers, ends) = ([2, 5, 9, 5, 7, 9, 12, 1, 9], [3, 7, 9]);
+/// let stopped = query(&numbers, &ends, 2, 2, &mut answers, &mut certificate).unwrap_err();
+/// assert_eq!(stopped.refusal.number, Refusal::ALLOWANCE_SPENT);
+/// assert_eq!(answers[..stopped.counts.answers], [5]);
+/// assert_eq!(
+///     stopped.to_string(),
+///     "refusal 7 at 4: one more probe is due and the allowance is used up; \
+///      written before: answers 1, parts 4, bytes 72"
+/// );
+///
+/// fn answer_count(numbers: &[u32], ends: &[u32]) -> Result<usize, Refusal> {
+///     let (mut answers, mut certificate) = ([0; 9], [0; 325]);
+///     Ok(query(numbers, ends, 2, 2, &mut answers, &mut certificate)?.answers)
+/// }
+/// assert_eq!(answer_count(&numbers, &ends), Err(stopped.refusal));
+/// ```
+#[derive(Clone, Copy, Debug, PartialEq, Eq, Hash)]
+pub struct Stopped {
+    /// Why the query stopped.
+    pub refusal: Refusal,
+    /// What it wrote and probed before, which stands: nothing for refusals 1
+    /// to 4, the first answers and parts for 5 to 7.
+    pub counts: Counts,
+}
+
+impl fmt::Display for Stopped {
+    fn fmt(&self, f: &mut fmt::Formatter<'_>) -> fmt::Result {
+        let Stopped { refusal, counts } = self;
+        write!(f, "{refusal}")?;
+        // Each answer has a part, so without parts nothing was written.
+        if counts.parts > 0 {
+            write!(
+                f,
+                "; written before: answers {}, parts {}, bytes {}",
+                counts.answers, counts.parts, counts.bytes
+            )?;
+        }
+        Ok(())
+    }
+}
+
+impl Error for Stopped {
+    fn source(&self) -> Option<&(dyn Error + 'static)> {
+        Some(&self.refusal)
+    }
+}
+
+impl From<Stopped> for Refusal {
+    fn from(stopped: Stopped) -> Self {
+        stopped.refusal
+    }
+}

@@ -1,0 +1,100 @@
+//! Refusals as errors: their texts, their sources, and `?` in functions whose
+//! errors differ.
+
+use quorum::{check, parts, probe_bound, query, Checked, Counts, Part, Refusal, Stopped};
+use std::collections::BTreeSet;
+use std::error::Error;
+
+/// Runs {2, 5, 9}, {5, 7, 9, 12} and {1, 9}.
+const NUMBERS: [u32; 9] = [2, 5, 9, 5, 7, 9, 12, 1, 9];
+const ENDS: [u32; 3] = [3, 7, 9];
+
+/// Asks for what two of the runs hold.
+fn ask(allowance: u32, certificate: &mut [u8]) -> Result<Counts, Stopped> {
+    query(&NUMBERS, &ENDS, 2, allowance, &mut [0; 9], certificate)
+}
+
+/// Asks, checks and reads, with one kind of error for all.
+fn ask_and_check<E>(allowance: u32) -> Result<(Checked, Vec<Part>), E>
+where
+    E: From<Stopped> + From<Refusal>,
+{
+    let mut certificate = [0; 325];
+    assert_eq!(probe_bound(&ENDS, 6)?, 84);
+    let counts = ask(allowance, &mut certificate)?;
+    let certificate = &certificate[..counts.bytes];
+    let checked = check(&NUMBERS, &ENDS, 2, certificate)?;
+    let read = parts(certificate).collect::<Result<Vec<_>, _>>()?;
+    Ok((checked, read))
+}
+
+const SPENT: Stopped = Stopped {
+    refusal: Refusal {
+        number: Refusal::ALLOWANCE_SPENT,
+        place: 4,
+    },
+    counts: Counts {
+        answers: 1,
+        parts: 4,
+        bytes: 72,
+        probes: 2,
+    },
+};
+
+#[test]
+fn question_mark() {
+    assert_eq!(ask(2, &mut [0; 325]), Err(SPENT));
+    assert_eq!(ask_and_check(2), Err(SPENT.refusal));
+    let error = ask_and_check::<Box<dyn Error + Send + Sync>>(2).unwrap_err();
+    assert_eq!(error.downcast_ref(), Some(&SPENT));
+    let (checked, read) = ask_and_check::<Refusal>(3).unwrap();
+    let expected = Checked {
+        answers: 2,
+        parts: 6,
+    };
+    assert_eq!((checked, read.len()), (expected, 6));
+}
+
+#[test]
+fn sources() {
+    let source = SPENT.source().and_then(|source| source.downcast_ref());
+    assert_eq!(source, Some(&SPENT.refusal));
+    assert!(SPENT.refusal.source().is_none());
+    assert_eq!(Refusal::from(SPENT), SPENT.refusal);
+}
+
+/// Each ground has a text of its own, and other numbers have none.
+#[test]
+fn texts_of_refusals() {
+    let ground = |number| {
+        let text = Refusal { number, place: 17 }.to_string();
+        let ground = text.strip_prefix(&format!("refusal {number} at 17: "));
+        ground.map(str::to_string).expect("number and place")
+    };
+    let grounds: BTreeSet<String> = (0..=11).map(ground).collect();
+    assert_eq!(grounds.len(), 12);
+    assert_eq!(ground(0), "an unknown ground");
+    assert_eq!(ground(12), "an unknown ground");
+    assert_eq!(ground(u64::MAX), "an unknown ground");
+}
+
+/// Of what was written only what there is.
+#[test]
+fn texts_of_stopped_queries() {
+    let text = |stopped: Stopped| {
+        let text = stopped.to_string();
+        let refusal = stopped.refusal.to_string();
+        text.strip_prefix(&refusal).map(str::to_string)
+    };
+    let written = "; written before: answers 1, parts 4, bytes 72";
+    assert_eq!(text(SPENT).as_deref(), Some(written));
+
+    let none = ask(3, &mut [0; 18]).unwrap_err();
+    assert_eq!(none.refusal.number, Refusal::CERTIFICATE_FULL);
+    assert_eq!(text(none).as_deref(), Some(""));
+
+    let bad = query(&NUMBERS, &ENDS, 4, 3, &mut [0; 9], &mut [0; 325]).unwrap_err();
+    assert_eq!(bad.refusal.number, Refusal::BAD_THRESHOLD);
+    assert_eq!(bad.counts, Counts::default());
+    assert_eq!(text(bad).as_deref(), Some(""));
+}

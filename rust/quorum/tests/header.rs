@@ -1,0 +1,168 @@
+//! The constants of `include/quorum.h` against those of the crate.
+
+use quorum::{ffi, Refusal};
+use std::collections::BTreeMap;
+
+/// The constants of a C header whose names begin with `QUORUM_` and whose
+/// values are decimal: `NAME = value` in an enumeration, `#define NAME value`.
+fn constants(header: &str) -> BTreeMap<String, u64> {
+    let mut found = BTreeMap::new();
+    let mut read = |name: &str, value: &str| {
+        let is_name = |byte: u8| byte == b'_' || byte.is_ascii_alphanumeric();
+        if !name.starts_with("QUORUM_") || !name.bytes().all(is_name) {
+            return;
+        }
+        if let Some(value) = decimal(value) {
+            let before = found.insert(name.to_string(), value);
+            assert_eq!(before, None, "{name} is there twice");
+        }
+    };
+    for line in without_comments(header).lines() {
+        if let Some(directive) = line.trim_start().strip_prefix('#') {
+            let definition = directive.trim_start().strip_prefix("define");
+            let words = definition.and_then(|words| words.trim().split_once(char::is_whitespace));
+            if let Some((name, value)) = words {
+                read(name, value);
+            }
+            continue;
+        }
+        for piece in line.split([',', ';', '{', '}']) {
+            if let Some((name, value)) = piece.split_once('=') {
+                read(name.trim(), value);
+            }
+        }
+    }
+    found
+}
+
+/// The text with a space in the place of each comment.
+fn without_comments(text: &str) -> String {
+    let mut pieces = text.split("/*");
+    let mut code = pieces.next().unwrap_or_default().to_string();
+    for piece in pieces {
+        if let Some((_, after)) = piece.split_once("*/") {
+            code.push(' ');
+            code.push_str(after);
+        }
+    }
+    let front = |line: &str| match line.split_once("//") {
+        Some((front, _)) => format!("{front} \n"),
+        None => format!("{line}\n"),
+    };
+    code.lines().map(front).collect()
+}
+
+/// A decimal number, perhaps in parentheses and with a suffix such as `UL`.
+fn decimal(text: &str) -> Option<u64> {
+    let text = text.trim();
+    if let Some(inner) = text.strip_prefix('(') {
+        return decimal(inner.strip_suffix(')')?);
+    }
+    let digits = text.trim_end_matches(['u', 'U', 'l', 'L']);
+    let is_number = !digits.is_empty() && digits.bytes().all(|byte| byte.is_ascii_digit());
+    is_number.then(|| digits.parse().ok()).flatten()
+}
+
+fn header() -> BTreeMap<String, u64> {
+    let path = concat!(env!("CARGO_MANIFEST_DIR"), "/../../include/quorum.h");
+    constants(&std::fs::read_to_string(path).expect("the header can be read"))
+}
+
+#[test]
+fn constants_are_equal() {
+    let version = |part: &str| part.parse().expect("a number");
+    let expected = [
+        ("ACCEPTED", 0),
+        ("BAD_RUN_COUNT", Refusal::BAD_RUN_COUNT),
+        ("BAD_THRESHOLD", Refusal::BAD_THRESHOLD),
+        ("BAD_ENDS", Refusal::BAD_ENDS),
+        ("NOT_RISING", Refusal::NOT_RISING),
+        ("ANSWERS_FULL", Refusal::ANSWERS_FULL),
+        ("CERTIFICATE_FULL", Refusal::CERTIFICATE_FULL),
+        ("ALLOWANCE_SPENT", Refusal::ALLOWANCE_SPENT),
+        ("BAD_FIELD", Refusal::BAD_FIELD),
+        ("NOT_COVERING", Refusal::NOT_COVERING),
+        ("BAD_MASK", Refusal::BAD_MASK),
+        ("CONTRADICTED", Refusal::CONTRADICTED),
+        ("MAX_RUNS", quorum::MAX_RUNS as u64),
+        ("MAX_NUMBERS", quorum::MAX_NUMBERS as u64),
+        ("LAST_BIN", quorum::LAST_BIN.into()),
+        ("ENOUGH_PROBES", quorum::ENOUGH_PROBES.into()),
+        ("TAG_ANSWER", quorum::TAG_ANSWER.into()),
+        ("TAG_GAP", quorum::TAG_GAP.into()),
+        ("ANSWER_SIZE", quorum::ANSWER_SIZE as u64),
+        ("GAP_SIZE", quorum::GAP_SIZE as u64),
+        ("VERSION_MAJOR", version(env!("CARGO_PKG_VERSION_MAJOR"))),
+        ("VERSION_MINOR", version(env!("CARGO_PKG_VERSION_MINOR"))),
+        ("VERSION_PATCH", version(env!("CARGO_PKG_VERSION_PATCH"))),
+    ];
+    let header = header();
+    let found = |name| header.get(&format!("QUORUM_{name}")).copied();
+    let differ = expected.map(|(name, value)| (name, found(name), value));
+    let differ = differ
+        .iter()
+        .filter(|(_, found, value)| *found != Some(*value));
+    let differ: Vec<_> = differ.collect();
+    assert!(differ.is_empty(), "name, in the header, here: {differ:?}");
+}
+
+/// The header's places in a row of results, against rows that the library
+/// writes.
+#[test]
+fn places_of_results() {
+    let header = header();
+    let at = |row: &[u64], name| row[header[name] as usize];
+    let (mut answers, mut certificate) = ([0; 9], [0; 325]);
+
+    let refused = ffi::query(&[3, 3], &[2], 1, 0, &mut answers, &mut certificate);
+    assert_eq!(at(&refused, "QUORUM_REFUSAL"), Refusal::NOT_RISING);
+    assert_eq!(at(&refused, "QUORUM_PLACE"), 1);
+
+    let (numbers, ends) = ([2, 5, 9, 5, 7, 9, 12, 1, 9], [3, 7, 9]);
+    let row = ffi::query(&numbers, &ends, 2, 3, &mut answers, &mut certificate);
+    assert_eq!(at(&row, "QUORUM_ANSWERS"), 2);
+    assert_eq!(at(&row, "QUORUM_PARTS"), 6);
+    assert_eq!(at(&row, "QUORUM_BYTES"), 106);
+    assert_eq!(at(&row, "QUORUM_PROBES"), 3);
+
+    let row = ffi::check(&numbers, &ends, 2, &certificate[..106]);
+    assert_eq!(at(&row, "QUORUM_ANSWERS"), 2);
+    assert_eq!(at(&row, "QUORUM_PARTS"), 6);
+}
+
+#[test]
+fn forms_of_constants() {
+    let header = "
+#ifndef QUORUM_H
+#define QUORUM_H
+#define QUORUM_A 1
+# define  QUORUM_B\t(2u) /* QUORUM_B is 3 */
+#define QUORUM_C ((4294967295UL)) // in parentheses
+#define QUORUM_TEXT \"5\"
+#define QUORUM_SIZE(n) (34 * (n) + 19)
+#define QUORUM_SUM 1 + 2
+#define OTHER 6
+/* QUORUM_D = 7, // */
+enum { QUORUM_E = 8, QUORUM_F=(9), /*
+    QUORUM_G = 10, */ QUORUM_I = 11
+};
+enum refusal {
+    QUORUM_J = 12u, /* a / b */
+    QUORUM_K = 13 // QUORUM_L = 14
+};
+void quorum_check(uint64_t result[4]);
+#endif
+";
+    let expected = [
+        ("A", 1),
+        ("B", 2),
+        ("C", u64::from(u32::MAX)),
+        ("E", 8),
+        ("F", 9),
+        ("I", 11),
+        ("J", 12),
+        ("K", 13),
+    ];
+    let expected = expected.map(|(name, value)| (format!("QUORUM_{name}"), value));
+    assert_eq!(constants(header), BTreeMap::from(expected));
+}
