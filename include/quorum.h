@@ -220,8 +220,9 @@ void quorum_between(const uint32_t *list, size_t list_len, uint32_t first,
 
 /**
  * Sum up 2 * parts * (binary digits of the run's length) over the runs. If some
- * true certificate has so many parts, an allowance of this many probes is never
- * used up.
+ * true certificate has so many parts, an allowance of this many probes is enough:
+ * refusal 7 never occurs. A sum above QUORUM_ENOUGH_PROBES, which may not fit the
+ * 32 bits of an allowance, can be cut down to that.
  *
  * `result` receives refusal and place, and the bound, 0 on a refusal: 1 and 3 as
  * above, but for the numbers' length, which this call does not see.

@@ -1,6 +1,6 @@
 #!/usr/bin/env bash
-# Tests that the other scripts fail where they should: without rt, with a crate that is not proved, with a file that is not there, and with an answer that is not
-# whole. Works in a copy of the repository.
+# Tests that the other scripts fail where they should: without rt, with a crate that is not proved, with a file or a benchmark's case that is not there, and with
+# an answer that is not whole; and that the benchmark prints its table alone. Works in a copy of the repository, but for the benchmark, which needs the library.
 set -euo pipefail
 cd "$(dirname "$0")/.."
 
@@ -36,6 +36,15 @@ done
 # a file is not named, or not there
 fails 'no file is named' make -C "$copy" --no-print-directory run INPUT=
 fails "$copy/no_such_file cannot be read" make -C "$copy" --no-print-directory run INPUT=no_such_file
+
+# a benchmark's case is not there; one that is prints its heading and its row alone
+fails 'no case has `no such case` in its name' make --no-print-directory bench ONLY='no such case'
+make --no-print-directory bench ONLY='blocks k=64 t=64' REPS=1 >"$work/out" 2>"$work/err"
+if ! awk 'NR == 1 { heading = /^case / } NR == 2 { row = /^blocks +64 +64 / } END { exit !(heading && row && NR == 2) }' "$work/out"; then
+  echo "the benchmark prints" >&2
+  cat "$work/out" >&2
+  exit 1
+fi
 
 # a crate is not proved: a bin less than the definitions say
 sed -i 's/^lastBin = 4294967295$/lastBin = 4294967294/' "$copy/crates/model/specs/Runs.antt"

@@ -179,11 +179,8 @@ impl fmt::Display for Stopped {
     }
 }
 
-impl Error for Stopped {
-    fn source(&self) -> Option<&(dyn Error + 'static)> {
-        Some(&self.refusal)
-    }
-}
+/// Its text has the refusal's, so the refusal is no source of its own.
+impl Error for Stopped {}
 
 impl From<Stopped> for Refusal {
     fn from(stopped: Stopped) -> Self {

@@ -1,5 +1,4 @@
-//! Refusals as errors: their texts, their sources, and `?` in functions whose
-//! errors differ.
+//! Refusals as errors: their texts, and `?` in functions whose errors differ.
 
 use quorum::{check, parts, probe_bound, query, Checked, Counts, Part, Refusal, Stopped};
 use std::collections::BTreeSet;
@@ -55,11 +54,13 @@ fn question_mark() {
     assert_eq!((checked, read.len()), (expected, 6));
 }
 
+/// A stopped query's text tells the refusal, which is told once in the chain of
+/// errors.
 #[test]
-fn sources() {
-    let source = SPENT.source().and_then(|source| source.downcast_ref());
-    assert_eq!(source, Some(&SPENT.refusal));
-    assert!(SPENT.refusal.source().is_none());
+fn told_once() {
+    let ground = SPENT.refusal.to_string();
+    assert!(SPENT.to_string().starts_with(&ground));
+    assert!(SPENT.source().is_none() && SPENT.refusal.source().is_none());
     assert_eq!(Refusal::from(SPENT), SPENT.refusal);
 }
 

@@ -106,28 +106,41 @@ fn constants_are_equal() {
     assert!(differ.is_empty(), "name, in the header, here: {differ:?}");
 }
 
-/// The header's places in a row of results, against rows that the library
+/// The header's places in the rows of results, against rows that the library
 /// writes.
 #[test]
 fn places_of_results() {
     let header = header();
-    let at = |row: &[u64], name| row[header[name] as usize];
+    let at = |row: &[u64], name: &str| row[header[&format!("QUORUM_{name}")] as usize];
+    let length = |name: &str| header[&format!("QUORUM_{name}")] as usize;
     let (mut answers, mut certificate) = ([0; 9], [0; 325]);
 
     let refused = ffi::query(&[3, 3], &[2], 1, 0, &mut answers, &mut certificate);
-    assert_eq!(at(&refused, "QUORUM_REFUSAL"), Refusal::NOT_RISING);
-    assert_eq!(at(&refused, "QUORUM_PLACE"), 1);
+    assert_eq!(at(&refused, "REFUSAL"), Refusal::NOT_RISING);
+    assert_eq!(at(&refused, "PLACE"), 1);
 
     let (numbers, ends) = ([2, 5, 9, 5, 7, 9, 12, 1, 9], [3, 7, 9]);
     let row = ffi::query(&numbers, &ends, 2, 3, &mut answers, &mut certificate);
-    assert_eq!(at(&row, "QUORUM_ANSWERS"), 2);
-    assert_eq!(at(&row, "QUORUM_PARTS"), 6);
-    assert_eq!(at(&row, "QUORUM_BYTES"), 106);
-    assert_eq!(at(&row, "QUORUM_PROBES"), 3);
+    assert_eq!(row.len(), length("QUERY_ROW"));
+    assert_eq!(at(&row, "QUERY_ANSWERS"), 2);
+    assert_eq!(at(&row, "QUERY_PARTS"), 6);
+    assert_eq!(at(&row, "QUERY_BYTES"), 106);
+    assert_eq!(at(&row, "QUERY_PROBES"), 3);
 
     let row = ffi::check(&numbers, &ends, 2, &certificate[..106]);
-    assert_eq!(at(&row, "QUORUM_ANSWERS"), 2);
-    assert_eq!(at(&row, "QUORUM_PARTS"), 6);
+    assert_eq!(row.len(), length("CHECK_ROW"));
+    assert_eq!(at(&row, "CHECK_ANSWERS"), 2);
+    assert_eq!(at(&row, "CHECK_PARTS"), 6);
+
+    let part = ffi::between(&[2, 5, 9], 3, 9);
+    let row = [part.start, part.end];
+    assert_eq!(row.len(), length("BETWEEN_ROW"));
+    assert_eq!(at(&row, "BETWEEN_START"), 1);
+    assert_eq!(at(&row, "BETWEEN_END"), 3);
+
+    let row = ffi::probe_bound(&ends, 6);
+    assert_eq!(row.len(), length("BOUND_ROW"));
+    assert_eq!(at(&row, "BOUND_PROBES"), 84);
 }
 
 #[test]

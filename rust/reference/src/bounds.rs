@@ -8,7 +8,7 @@ pub fn digits(n: u64) -> u32 {
 
 /// Returns the sum over the runs of 2 × `parts` × the digits of the run's
 /// length. If some true certificate has `parts` parts, an allowance of this
-/// many probes is never used up. `u64::MAX` stands for any larger sum.
+/// many probes is enough. `u64::MAX` stands for any larger sum.
 pub fn probe_bound(ends: &[u32], parts: u64) -> u64 {
     let mut start = 0;
     let mut sum: u64 = 0;
