@@ -213,6 +213,13 @@ pub fn instances() -> Vec<Instance> {
             accepted(1, 3, 53, 5),
         ),
         Instance::new(
+            "one number against ten, spent in the search",
+            &[&[100][..], &tens],
+            (2, 3),
+            &[gap(0, 99, 1)],
+            refused(7, 1, 0, 19, 3),
+        ),
+        Instance::new(
             "two blocks",
             &[[1, 2, 3], [4, 5, 6]],
             (2, 2),
