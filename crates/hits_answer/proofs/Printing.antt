@@ -3,7 +3,7 @@ use Prim.Native.Nat.{ℕ, _-_, _≤_}
 use lib.Dec.{ltb}
 use lib.ListN.{length, take, drop, replicate, length-replicate, length-append}
 use lib.Seq.{take-append-seam}
-use mathlib.Core.Bool.{Bool}
+use mathlib.Core.Bool.{Bool, _||_}
 use mathlib.Core.List.{List, [], _∷_, _++_}
 use mathlib.Core.Path.{_≡_, refl, sym, ap, ap₂, _∙_, subst}
 use native.Mathlib.Omega.{arith}
@@ -51,23 +51,23 @@ result-same (text.heading u v) (text.runsAre rs) a b c d =
           take-over n (text.endsFrom 0 rs) b (omega arith) ∙ sym (take-over n (text.endsFrom 0 rs) d (omega arith)));
     }
 
-lines-same : (longer : Bool) (ls : List (List ℕ)) (a b c d : List ℕ) → length a ≡ length c → length b ≡ length d
-    → Same (text.parseLines longer ls a b) (text.parseLines longer ls c d)
+lines-same : (more : Bool) (ls : List (List ℕ)) (a b c d : List ℕ) → length a ≡ length c → length b ≡ length d
+    → Same (text.parseLines more ls a b) (text.parseLines more ls c d)
 unfolding text.parseLines
-lines-same longer [] a b c d e f = result-same text.noHeading (text.runsAre []) a b c d
-lines-same longer (l ∷ []) a b c d e f = result-same text.noHeading (text.runsAre []) a b c d
-lines-same longer (l ∷ next ∷ ls) a b c d e f =
+lines-same more [] a b c d e f = result-same text.noHeading (text.runsAre []) a b c d
+lines-same more (l ∷ []) a b c d e f = result-same text.noHeading (text.runsAre []) a b c d
+lines-same more (l ∷ next ∷ ls) a b c d e f =
     let k : text.linesFrom (record { runs = length b; numbers = length a }) 0 0 (next ∷ ls)
     ≡ text.linesFrom (record { runs = length d; numbers = length c }) 0 0 (next ∷ ls) =
     λ i. text.linesFrom (record { runs = f i; numbers = e i }) 0 0 (next ∷ ls) in
-    subst (λ x. Same (text.resultOf (text.headingOf l) (text.limited longer (text.linesFrom (record { runs = length b; numbers = length a }) 0 0 (next ∷ ls))) a b)
-    (text.resultOf (text.headingOf l) (text.limited longer x) c d))
-    k (result-same (text.headingOf l) (text.limited longer (text.linesFrom (record { runs = length b; numbers = length a }) 0 0 (next ∷ ls))) a b c d)
+    subst (λ x. Same (text.resultOf (text.headingOf l) (text.limited more (text.linesFrom (record { runs = length b; numbers = length a }) 0 0 (next ∷ ls))) a b)
+    (text.resultOf (text.headingOf l) (text.limited more x) c d))
+    k (result-same (text.headingOf l) (text.limited more (text.linesFrom (record { runs = length b; numbers = length a }) 0 0 (next ∷ ls))) a b c d)
 
-pub parse-text : (input a b : List ℕ) → length a ≡ inputNumbers → length b ≡ inputRuns → Same (text.parse input a b) (parsed input)
+pub parse-text : (failed : Bool) (input a b : List ℕ) → length a ≡ inputNumbers → length b ≡ inputRuns → Same (text.parse failed input a b) (parsed failed input)
 unfolding text.parse parsed
-parse-text input a b e f =
-    lines-same (ltb mostBytes (length input)) (split 10 (take mostBytes input)) a b (replicate inputNumbers 0) (replicate inputRuns 0)
+parse-text failed input a b e f =
+    lines-same (failed || ltb mostBytes (length input)) (split 10 (take mostBytes input)) a b (replicate inputNumbers 0) (replicate inputRuns 0)
     (e ∙ sym (length-replicate {A = ℕ} inputNumbers 0)) (f ∙ sym (length-replicate {A = ℕ} inputRuns 0))
 
 -- a question's numbers and ends stand in the rows
@@ -84,50 +84,50 @@ result-fits (text.heading u v) (text.runsAre rs) a b t x n m e =
     let g = length-append (text.endsFrom 0 rs) (drop (length (text.endsFrom 0 rs)) b) in
     (omega arith, omega arith)
 
-lines-fits : (longer : Bool) (ls : List (List ℕ)) (a b : List ℕ) (t allowance n m : ℕ) → text.parseLines longer ls a b .outcome ≡ text.question t allowance n m
-    → (m ≤ length (text.parseLines longer ls a b .numbers)) × (n ≤ length (text.parseLines longer ls a b .ends))
+lines-fits : (more : Bool) (ls : List (List ℕ)) (a b : List ℕ) (t allowance n m : ℕ) → text.parseLines more ls a b .outcome ≡ text.question t allowance n m
+    → (m ≤ length (text.parseLines more ls a b .numbers)) × (n ≤ length (text.parseLines more ls a b .ends))
 unfolding text.parseLines
-lines-fits longer [] a b t x n m e = result-fits text.noHeading (text.runsAre []) a b t x n m e
-lines-fits longer (l ∷ []) a b t x n m e = result-fits text.noHeading (text.runsAre []) a b t x n m e
-lines-fits longer (l ∷ next ∷ ls) a b t x n m e =
-    result-fits (text.headingOf l) (text.limited longer (text.linesFrom (record { runs = length b; numbers = length a }) 0 0 (next ∷ ls))) a b t x n m e
+lines-fits more [] a b t x n m e = result-fits text.noHeading (text.runsAre []) a b t x n m e
+lines-fits more (l ∷ []) a b t x n m e = result-fits text.noHeading (text.runsAre []) a b t x n m e
+lines-fits more (l ∷ next ∷ ls) a b t x n m e =
+    result-fits (text.headingOf l) (text.limited more (text.linesFrom (record { runs = length b; numbers = length a }) 0 0 (next ∷ ls))) a b t x n m e
 
-parse-fits : (input a b : List ℕ) (t allowance n m : ℕ) → text.parse input a b .outcome ≡ text.question t allowance n m
-    → (m ≤ length (text.parse input a b .numbers)) × (n ≤ length (text.parse input a b .ends))
+parse-fits : (failed : Bool) (input a b : List ℕ) (t allowance n m : ℕ) → text.parse failed input a b .outcome ≡ text.question t allowance n m
+    → (m ≤ length (text.parse failed input a b .numbers)) × (n ≤ length (text.parse failed input a b .ends))
 unfolding text.parse
-parse-fits input a b t x n m e = lines-fits (ltb mostBytes (length input)) (split 10 (take mostBytes input)) a b t x n m e
+parse-fits failed input a b t x n m e = lines-fits (failed || ltb mostBytes (length input)) (split 10 (take mostBytes input)) a b t x n m e
 
 -- ---- what is printed
 
-pub prints-refusal : (input : List ℕ) (n p : ℕ) → parsed input .outcome ≡ text.refused n p → hits input ≡ refuseLine n p
+pub prints-refusal : (failed : Bool) (input : List ℕ) (n p : ℕ) → parsed failed input .outcome ≡ text.refused n p → hits failed input ≡ refuseLine n p
 unfolding hits printed
-prints-refusal input n p e = rw (e, printed)
+prints-refusal failed input n p e = rw (e, printed)
 
-pub prints-question : (input : List ℕ) (t allowance n m : ℕ) → parsed input .outcome ≡ text.question t allowance n m
-    → hits input ≡ textFor (take m (parsed input .numbers)) (take n (parsed input .ends)) t allowance
+pub prints-question : (failed : Bool) (input : List ℕ) (t allowance n m : ℕ) → parsed failed input .outcome ≡ text.question t allowance n m
+    → hits failed input ≡ textFor (take m (parsed failed input .numbers)) (take n (parsed failed input .ends)) t allowance
 unfolding hits printed
-prints-question input t allowance n m e = rw (e, printed)
+prints-question failed input t allowance n m e = rw (e, printed)
 
-pub refusal-text : (input a b a′ b′ : List ℕ) (line : ℕ) → length a ≡ inputNumbers → length b ≡ inputRuns
-    → Returns (text.parse input a b) (text.refused 12 line) a′ b′ → refuseLine 12 line ≡ hits input
-refusal-text input a b a′ b′ line e f r = sym (prints-refusal input 12 line (sym (parse-text input a b e f .outcome) ∙ sym (r .outcome-is)))
+pub refusal-text : (failed : Bool) (input a b a′ b′ : List ℕ) (line : ℕ) → length a ≡ inputNumbers → length b ≡ inputRuns
+    → Returns (text.parse failed input a b) (text.refused 12 line) a′ b′ → refuseLine 12 line ≡ hits failed input
+refusal-text failed input a b a′ b′ line e f r = sym (prints-refusal failed input 12 line (sym (parse-text failed input a b e f .outcome) ∙ sym (r .outcome-is)))
 
-pub question-text : (input a b a′ b′ : List ℕ) (t allowance n m : ℕ) → length a ≡ inputNumbers → length b ≡ inputRuns
-    → Returns (text.parse input a b) (text.question t allowance n m) a′ b′
-    → textFor (take (m - 0) (drop 0 a′)) (take (n - 0) (drop 0 b′)) t allowance ≡ hits input
-question-text input a b a′ b′ t allowance n m e f r =
-    let s = parse-text input a b e f in
-    let o : text.parse input a b .outcome ≡ text.question t allowance n m = sym (r .outcome-is) in
+pub question-text : (failed : Bool) (input a b a′ b′ : List ℕ) (t allowance n m : ℕ) → length a ≡ inputNumbers → length b ≡ inputRuns
+    → Returns (text.parse failed input a b) (text.question t allowance n m) a′ b′
+    → textFor (take (m - 0) (drop 0 a′)) (take (n - 0) (drop 0 b′)) t allowance ≡ hits failed input
+question-text failed input a b a′ b′ t allowance n m e f r =
+    let s = parse-text failed input a b e f in
+    let o : text.parse failed input a b .outcome ≡ text.question t allowance n m = sym (r .outcome-is) in
     let i : m - 0 ≡ m = omega arith in
     let j : n - 0 ≡ n = omega arith in
-    let x : take (m - 0) a′ ≡ take m (parsed input .numbers) = ap₂ take i (r .numbers-are) ∙ s .numbers t allowance n m o in
-    let y : take (n - 0) b′ ≡ take n (parsed input .ends) = ap₂ take j (r .ends-are) ∙ s .ends t allowance n m o in
-    (λ d. textFor (x d) (y d) t allowance) ∙ sym (prints-question input t allowance n m (sym (s .outcome) ∙ o))
+    let x : take (m - 0) a′ ≡ take m (parsed failed input .numbers) = ap₂ take i (r .numbers-are) ∙ s .numbers t allowance n m o in
+    let y : take (n - 0) b′ ≡ take n (parsed failed input .ends) = ap₂ take j (r .ends-are) ∙ s .ends t allowance n m o in
+    (λ d. textFor (x d) (y d) t allowance) ∙ sym (prints-question failed input t allowance n m (sym (s .outcome) ∙ o))
 
-pub question-fits : (input a b a′ b′ : List ℕ) (t allowance n m : ℕ) → Returns (text.parse input a b) (text.question t allowance n m) a′ b′
+pub question-fits : (failed : Bool) (input a b a′ b′ : List ℕ) (t allowance n m : ℕ) → Returns (text.parse failed input a b) (text.question t allowance n m) a′ b′
     → (m ≤ length a′) × (n ≤ length b′)
-question-fits input a b a′ b′ t allowance n m r =
-    let q = parse-fits input a b t allowance n m (sym (r .outcome-is)) in
+question-fits failed input a b a′ b′ t allowance n m r =
+    let q = parse-fits failed input a b t allowance n m (sym (r .outcome-is)) in
     let x = ap length (r .numbers-are) in
     let y = ap length (r .ends-are) in
     (omega (arith, q .0), omega (arith, q .1))

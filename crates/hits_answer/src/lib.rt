@@ -8,13 +8,19 @@ ghost use Rattle.hits_answer.specs.Hits.{hits};
 use hits_parse::Parsed;
 use hits_render::Rendered;
 
-// The text for an input, whose question is stored in these rows.
-pub fn text_in(input: &[u8], numbers: &mut [u32], ends: &mut [u32], text: &mut [u8]) -> Rendered
+// The text for an input, whose question is stored in these rows; `failed` says that a read failed after it.
+pub fn text_in(
+    input: &[u8],
+    failed: bool,
+    numbers: &mut [u32],
+    ends: &mut [u32],
+    text: &mut [u8],
+) -> Rendered
     requires { ⌜ (length (now numbers) ≡ inputNumbers) × (length (now ends) ≡ inputRuns) ⌝ }
-    ensures shows { λ r. ⌜ Shows (hits (now (input .entry))) (now (text .entry)) (now (text .exit)) r ⌝ }
-    ensures enough { λ r. ⌜ (mostText ≤ length (now (text .entry)) → r ≡ Rendered.Text (length (hits (now (input .entry))))) ⌝ }
+    ensures shows { λ r. ⌜ Shows (hits failed (now (input .entry))) (now (text .entry)) (now (text .exit)) r ⌝ }
+    ensures enough { λ r. ⌜ (mostText ≤ length (now (text .entry)) → r ≡ Rendered.Text (length (hits failed (now (input .entry))))) ⌝ }
 {
-    match hits_parse::parse(input, numbers, ends) {
+    match hits_parse::parse(input, failed, numbers, ends) {
         Parsed::Faulty(line) => hits_render::refuse(12, line, text),
         Parsed::Question {
             threshold,

@@ -74,7 +74,9 @@ linesFrom limits i n (line ∷ next ∷ lines) =
           ]
     ]
 
--- If the input is longer than the limit, byte 65,537 is at fault. It stands after the last line end before it.
+-- If the input is longer than the limit, byte 65,537 is at fault; if a read failed, the byte that could not be read. It stands after the last
+-- line end before it.
+-- (Here: whether there is such a byte, and the lines before it.)
 unfoldable pub limited : Bool → Lines → Lines
 limited false lines = lines
 limited true (runsAre runs) = faultAt (length runs + 2)
@@ -112,12 +114,13 @@ resultOf (heading t allowance) (runsAre runs) numbers ends =
     }
 
 unfoldable pub parseLines : Bool → List (List ℕ) → List ℕ → List ℕ → Result
-parseLines longer [] numbers ends = resultOf noHeading (runsAre []) numbers ends
-parseLines longer (line ∷ []) numbers ends = resultOf noHeading (runsAre []) numbers ends
-parseLines longer (line ∷ next ∷ lines) numbers ends =
-    resultOf (headingOf line) (limited longer (linesFrom (record { runs = length ends; numbers = length numbers }) 0 0 (next ∷ lines))) numbers ends
+parseLines more [] numbers ends = resultOf noHeading (runsAre []) numbers ends
+parseLines more (line ∷ []) numbers ends = resultOf noHeading (runsAre []) numbers ends
+parseLines more (line ∷ next ∷ lines) numbers ends =
+    resultOf (headingOf line) (limited more (linesFrom (record { runs = length ends; numbers = length numbers }) 0 0 (next ∷ lines))) numbers ends
 
--- The input as a question: the limits of runs and numbers are the lengths of the rows.
-unfoldable pub parse : List ℕ → List ℕ → List ℕ → Result
-parse input numbers ends =
-    parseLines (ltb mostBytes (length input)) (split 10 (take mostBytes input)) numbers ends
+-- The input as a question: the limits of runs and numbers are the lengths of the rows. `failed` says that a read failed after these bytes
+-- (docs/SPECIFICATION.md, 'The program hits').
+unfoldable pub parse : Bool → List ℕ → List ℕ → List ℕ → Result
+parse failed input numbers ends =
+    parseLines (failed || ltb mostBytes (length input)) (split 10 (take mostBytes input)) numbers ends

@@ -2,6 +2,7 @@
 use Prim.Native.Char.{code}
 use Prim.Native.Nat.{ℕ}
 use Prim.Native.String.{String, [] as noText, _∷_ as _andText_}
+use mathlib.Core.Bool.{Bool, true, false}
 use mathlib.Core.List.{List, [], _∷_, _++_, map}
 use mathlib.Core.Path.{_≡_}
 use lib.ListN.{replicate}
@@ -13,15 +14,17 @@ unfoldable pub bytes : String → List ℕ
 bytes noText = []
 bytes (c andText s) = code c ∷ bytes s
 
--- An input, and the outcome with the numbers and the ends that it writes. The rows have room for 9 numbers and 4 runs, and hold zeros.
+-- An input, whether a read failed after it, and the outcome with the numbers and the ends that it writes. The rows have room for 9 numbers and
+-- 4 runs, and hold zeros.
 pub record Instance : Type 0 where
   pub input : List ℕ
+  pub failed : Bool
   pub outcome : Outcome
   pub numbers : List ℕ
   pub ends : List ℕ
 
 unfoldable pub parsed : Instance → Result
-parsed i = parse (i .input) (replicate 9 0) (replicate 4 0)
+parsed i = parse (i .failed) (i .input) (replicate 9 0) (replicate 4 0)
 
 unfoldable pub expected : Instance → Result
 expected i =
@@ -32,10 +35,10 @@ expected i =
     }
 
 unfoldable pub accepts : List ℕ → Outcome → List ℕ → List ℕ → Instance
-accepts input o numbers ends = record { input = input; outcome = o; numbers = numbers; ends = ends }
+accepts input o numbers ends = record { input = input; failed = false; outcome = o; numbers = numbers; ends = ends }
 
-unfoldable pub refuses : List ℕ → ℕ → Instance
-refuses input line = record { input = input; outcome = refused 12 line; numbers = []; ends = [] }
+unfoldable pub refuses : Bool → List ℕ → ℕ → Instance
+refuses failed input line = record { input = input; failed = failed; outcome = refused 12 line; numbers = []; ends = [] }
 
 -- a run whose only number is written with many zeros, and further bytes
 unfoldable pub zeros : ℕ → List ℕ → List ℕ
@@ -49,34 +52,43 @@ instances =
     accepts (bytes "0 4294967295\n\n\n\n\n") (question 0 4294967295 4 0) [] (0 ∷ 0 ∷ 0 ∷ 0 ∷ []) ∷
     accepts (bytes "0001 00000000000000000000\n000000000000000004294967295 00\n") (question 1 0 1 2) (4294967295 ∷ 0 ∷ []) (2 ∷ []) ∷
     accepts (zeros 65531 []) (question 1 0 1 1) (0 ∷ []) (1 ∷ []) ∷
-    refuses (zeros 65532 []) 2 ∷
-    refuses (zeros 65531 (10 ∷ [])) 3 ∷
-    refuses [] 1 ∷
-    refuses (bytes "\n") 1 ∷
-    refuses (bytes "2 3") 1 ∷
-    refuses (bytes "2\n") 1 ∷
-    refuses (bytes "2 \n") 1 ∷
-    refuses (bytes " 2 3\n") 1 ∷
-    refuses (bytes "2  3\n") 1 ∷
-    refuses (bytes "2 3 4\n") 1 ∷
-    refuses (bytes "2 4294967296\n") 1 ∷
-    refuses (bytes "2 3\r\n") 1 ∷
-    refuses (bytes "2 3\n5") 2 ∷
-    refuses (bytes "2 3\n5\n7\n9 ") 4 ∷
-    refuses (bytes "2 3\n 5\n") 2 ∷
-    refuses (bytes "2 3\n5 \n") 2 ∷
-    refuses (bytes "2 3\n \n") 2 ∷
-    refuses (bytes "2 3\n5  7\n") 2 ∷
-    refuses (bytes "2 3\n5\t7\n") 2 ∷
-    refuses (bytes "2 3\n5\r\n") 2 ∷
-    refuses (bytes "2 3\n+5\n") 2 ∷
-    refuses (bytes "2 3\n5\n4294967296\n") 3 ∷
-    refuses (bytes "2 3\n5\n18446744073709551616\n") 3 ∷
-    refuses (bytes "2 3\n1\n2\n3\n4\n\n") 6 ∷
-    refuses (bytes "2 3\n1\n2\n3\n4\n5") 6 ∷
-    refuses (bytes "2 3\n1 2 3 4 5\n6 7 8 9 10\n") 3 ∷
-    refuses (bytes "2 3\n1 2 3 4 5\n6 7 8 9 10\nx\n") 3 ∷
-    refuses (bytes "2 3\nx\n1 2 3 4 5 6 7 8 9 10\n") 2 ∷
+    refuses false (zeros 65532 []) 2 ∷
+    refuses false (zeros 65531 (10 ∷ [])) 3 ∷
+    refuses false [] 1 ∷
+    refuses false (bytes "\n") 1 ∷
+    refuses false (bytes "2 3") 1 ∷
+    refuses false (bytes "2\n") 1 ∷
+    refuses false (bytes "2 \n") 1 ∷
+    refuses false (bytes " 2 3\n") 1 ∷
+    refuses false (bytes "2  3\n") 1 ∷
+    refuses false (bytes "2 3 4\n") 1 ∷
+    refuses false (bytes "2 4294967296\n") 1 ∷
+    refuses false (bytes "2 3\r\n") 1 ∷
+    refuses false (bytes "2 3\n5") 2 ∷
+    refuses false (bytes "2 3\n5\n7\n9 ") 4 ∷
+    refuses false (bytes "2 3\n 5\n") 2 ∷
+    refuses false (bytes "2 3\n5 \n") 2 ∷
+    refuses false (bytes "2 3\n \n") 2 ∷
+    refuses false (bytes "2 3\n5  7\n") 2 ∷
+    refuses false (bytes "2 3\n5\t7\n") 2 ∷
+    refuses false (bytes "2 3\n5\r\n") 2 ∷
+    refuses false (bytes "2 3\n+5\n") 2 ∷
+    refuses false (bytes "2 3\n5\n4294967296\n") 3 ∷
+    refuses false (bytes "2 3\n5\n18446744073709551616\n") 3 ∷
+    refuses false (bytes "2 3\n1\n2\n3\n4\n\n") 6 ∷
+    refuses false (bytes "2 3\n1\n2\n3\n4\n5") 6 ∷
+    refuses false (bytes "2 3\n1 2 3 4 5\n6 7 8 9 10\n") 3 ∷
+    refuses false (bytes "2 3\n1 2 3 4 5\n6 7 8 9 10\nx\n") 3 ∷
+    refuses false (bytes "2 3\nx\n1 2 3 4 5 6 7 8 9 10\n") 2 ∷
+    refuses true [] 1 ∷
+    refuses true (bytes "2 3") 1 ∷
+    refuses true (bytes "2 3\n") 2 ∷
+    refuses true (bytes "2 3\n5") 2 ∷
+    refuses true (bytes "2 3\nx\n5\n") 2 ∷
+    refuses true (bytes "2 3\n2 5 9\n5 7 9 12\n") 4 ∷
+    refuses true (bytes "2 3\n2 5 9\n5 7 9 12\n1 9\n") 5 ∷
+    refuses true (bytes "2 3\n1\n2\n3\n4\n") 6 ∷
+    refuses true (zeros 65531 []) 3 ∷
     []
 
 -- The claim: each instance is parsed as expected.

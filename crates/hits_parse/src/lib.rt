@@ -20,10 +20,10 @@ pub enum Parsed {
     Faulty(usize),
 }
 
-// An input, or the first bytes of a longer one, as many as the limit.
-fn parse_bytes(bytes: &[u8], longer: bool, numbers: &mut [u32], ends: &mut [u32]) -> Parsed
+// The bytes of an input up to the limit, `more` saying that one follows that is past the limit or could not be read.
+fn parse_bytes(bytes: &[u8], more: bool, numbers: &mut [u32], ends: &mut [u32]) -> Parsed
     requires { ⌜ length (now bytes) ≤ mostBytes ⌝ }
-    ensures { λ r. ⌜ Returns (parseLines longer (split 10 (now (bytes .entry))) (now (numbers .entry)) (now (ends .entry))) (outcomeIs r) (now (numbers .exit)) (now (ends .exit)) ⌝ }
+    ensures { λ r. ⌜ Returns (parseLines more (split 10 (now (bytes .entry))) (now (numbers .entry)) (now (ends .entry))) (outcomeIs r) (now (numbers .exit)) (now (ends .exit)) ⌝ }
 {
     let end = text_read::first_of(bytes, 10);
     if end == bytes.len() {
@@ -40,7 +40,7 @@ fn parse_bytes(bytes: &[u8], longer: bool, numbers: &mut [u32], ends: &mut [u32]
     match hits_lines::scan_lines(bytes, start, ends.len(), numbers.len()) {
         Scan::Fault(line) => Parsed::Faulty(line),
         Scan::Runs { runs, count } => {
-            if longer {
+            if more {
                 return Parsed::Faulty(runs + 2);
             }
             hits_lines::write_lines(bytes, start, numbers, ends);
@@ -55,13 +55,14 @@ fn parse_bytes(bytes: &[u8], longer: bool, numbers: &mut [u32], ends: &mut [u32]
 }
 
 // The input as a question, whose numbers and ends are then stored at the front of the two rows; their lengths are the limits.
-// A faulty input leaves both rows unchanged. Linear in the input.
-pub fn parse(input: &[u8], numbers: &mut [u32], ends: &mut [u32]) -> Parsed
-    ensures { λ r. ⌜ Returns (parse (now (input .entry)) (now (numbers .entry)) (now (ends .entry))) (outcomeIs r) (now (numbers .exit)) (now (ends .exit)) ⌝ }
+// `failed` says that a read failed after these bytes, which is a fault in the line of the byte that could not be read. A faulty input leaves both
+// rows unchanged. Linear in the input.
+pub fn parse(input: &[u8], failed: bool, numbers: &mut [u32], ends: &mut [u32]) -> Parsed
+    ensures { λ r. ⌜ Returns (parse failed (now (input .entry)) (now (numbers .entry)) (now (ends .entry))) (outcomeIs r) (now (numbers .exit)) (now (ends .exit)) ⌝ }
 {
     let most = hits_limits::most_bytes();
     if most < input.len() {
         return parse_bytes(&input[0..most], true, numbers, ends);
     }
-    parse_bytes(input, false, numbers, ends)
+    parse_bytes(input, failed, numbers, ends)
 }

@@ -1,4 +1,6 @@
--- Document 01's listing, and the same question with too small an allowance, by computation. Assumes nothing.
+-- Document 01's listing, the same question with too small an allowance, and its first three lines with a read that fails after them, by computation.
+-- Assumes nothing.
+use mathlib.Core.Bool.{true, false}
 use mathlib.Core.Path.{_≡_, refl}
 use Rattle.model.specs.Certificate.{firstOf, lastOf, answersOf, bytesOf, numberOf, field, encodePart, encode, readBody, readField}
 use Rattle.model.specs.Compared.{wholeWalk, partsOf, cost, probe, probesOf}
@@ -16,14 +18,14 @@ use Rattle.hits_parts.specs.Parts.{partLine, partLines, partsFrom, partsHeld}
 use Rattle.hits_render.specs.Text.{doneLine, refuseLine, rendered}
 use Rattle.hits_ask.specs.Ask.{shown, asked, textFor}
 use Rattle.hits_answer.specs.Hits.{parsed, printed, hits}
-use Rattle.hits_printed.specs.Instances.{listingInput, listingText, refusedInput, refusedText}
+use Rattle.hits_printed.specs.Instances.{listingInput, listingText, refusedInput, refusedText, partInput, partText}
 
-pub listing-printed : (hits listingInput ≡ listingText) × (hits refusedInput ≡ refusedText)
-unfolding listingInput listingText refusedInput refusedText bytes hits printed parsed textFor asked shown
+pub listing-printed : (hits false listingInput ≡ listingText) × (hits false refusedInput ≡ refusedText) × (hits true partInput ≡ partText)
+unfolding listingInput listingText refusedInput refusedText partInput partText bytes hits printed parsed textFor asked shown
     mostBytes inputRuns inputNumbers answerRoom certificateRoom onFirst split allDigits decimalValue number before numbersOf pair twoWords headingOf runOf runBefore linesFrom limited row endsFrom resultOf parseLines parse
     firstOf lastOf answersOf bytesOf numberOf field encodePart encode readBody readField wholeWalk partsOf cost probe probesOf
     _then_ refuseIf refuseAt fallsFrom lastEnd unrisenIn firstChecks met after cut cutWalk over outcomeOf query
     firstBin lastBin pastBin runsFrom runs unrisenAfter unrisen total one count mask
     headOf head leastHead tthHead doubling halving seek searchIn searches searched movedOn settle round walk
     decimalIn decimal numbersAfter line partLine partLines doneLine refuseLine partsFrom partsHeld rendered
-listing-printed = (refl, refl)
+listing-printed = (refl, refl, refl)

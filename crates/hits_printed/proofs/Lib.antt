@@ -1,2 +1,3 @@
+pub mod Failed
 pub mod Instances
 pub mod Refusals

@@ -155,7 +155,7 @@ record Runs (p : text.Result) (limit runs count : ℕ) : Type 0 where
   ends-are : take runs (p .ends) ≡ text.endsFrom 0 rs
   kept : Kept limit 0 rs
 
-limited-runs : (longer : Bool) (l : text.Lines) (rs : List (List ℕ)) → text.limited longer l ≡ text.runsAre rs → l ≡ text.runsAre rs
+limited-runs : (more : Bool) (l : text.Lines) (rs : List (List ℕ)) → text.limited more l ≡ text.runsAre rs → l ≡ text.runsAre rs
 unfolding text.limited
 limited-runs false l rs e = e
 limited-runs true (text.runsAre qs) rs e = absurd (let z : _≡_ {A = ℕ} 0 1 = cc in omega arith)
@@ -177,27 +177,27 @@ result-runs (text.heading u v) (text.runsAre rs) a b limit t x n m k e =
       kept = k rs refl;
     }
 
-lines-runs : (longer : Bool) (ls : List (List ℕ)) (a b : List ℕ) (t allowance n m : ℕ) → text.parseLines longer ls a b .outcome ≡ text.question t allowance n m
-    → Runs (text.parseLines longer ls a b) (length a) n m
+lines-runs : (more : Bool) (ls : List (List ℕ)) (a b : List ℕ) (t allowance n m : ℕ) → text.parseLines more ls a b .outcome ≡ text.question t allowance n m
+    → Runs (text.parseLines more ls a b) (length a) n m
 unfolding text.parseLines text.resultOf
-lines-runs longer [] a b t x n m e = refused-not e
-lines-runs longer (l ∷ []) a b t x n m e = refused-not e
-lines-runs longer (l ∷ next ∷ ls) a b t x n m e =
+lines-runs more [] a b t x n m e = refused-not e
+lines-runs more (l ∷ []) a b t x n m e = refused-not e
+lines-runs more (l ∷ next ∷ ls) a b t x n m e =
     let limits : text.Limits = record { runs = length b; numbers = length a } in
     let none-yet : 0 ≤ length a = omega arith in
-    result-runs (text.headingOf l) (text.limited longer (text.linesFrom limits 0 0 (next ∷ ls))) a b (length a) t x n m
-    (λ rs q. kept-lines limits 0 0 (next ∷ ls) rs none-yet (limited-runs longer (text.linesFrom limits 0 0 (next ∷ ls)) rs q)) e
+    result-runs (text.headingOf l) (text.limited more (text.linesFrom limits 0 0 (next ∷ ls))) a b (length a) t x n m
+    (λ rs q. kept-lines limits 0 0 (next ∷ ls) rs none-yet (limited-runs more (text.linesFrom limits 0 0 (next ∷ ls)) rs q)) e
 
-parse-runs : (input a b : List ℕ) (t allowance n m : ℕ) → text.parse input a b .outcome ≡ text.question t allowance n m
-    → Runs (text.parse input a b) (length a) n m
+parse-runs : (failed : Bool) (input a b : List ℕ) (t allowance n m : ℕ) → text.parse failed input a b .outcome ≡ text.question t allowance n m
+    → Runs (text.parse failed input a b) (length a) n m
 unfolding text.parse
-parse-runs input a b t x n m e = lines-runs (ltb mostBytes (length input)) (split 10 (take mostBytes input)) a b t x n m e
+parse-runs failed input a b t x n m e = lines-runs (failed || ltb mostBytes (length input)) (split 10 (take mostBytes input)) a b t x n m e
 
-parsed-runs : (input : List ℕ) (t allowance n m : ℕ) → parsed input .outcome ≡ text.question t allowance n m → Runs (parsed input) inputNumbers n m
+parsed-runs : (failed : Bool) (input : List ℕ) (t allowance n m : ℕ) → parsed failed input .outcome ≡ text.question t allowance n m → Runs (parsed failed input) inputNumbers n m
 unfolding parsed
-parsed-runs input t x n m e =
-    subst (λ k. Runs (text.parse input (replicate inputNumbers 0) (replicate inputRuns 0)) k n m) (length-replicate {A = ℕ} inputNumbers 0)
-    (parse-runs input (replicate inputNumbers 0) (replicate inputRuns 0) t x n m e)
+parsed-runs failed input t x n m e =
+    subst (λ k. Runs (text.parse failed input (replicate inputNumbers 0) (replicate inputRuns 0)) k n m) (length-replicate {A = ℕ} inputNumbers 0)
+    (parse-runs failed input (replicate inputNumbers 0) (replicate inputRuns 0) t x n m e)
 
 -- ---- the first checks of such a question refuse by 1, 2 or 4
 
@@ -269,13 +269,13 @@ runs-refused rs t allowance answers certificate k e f n p a b q o = go (firstChe
         inl (door rs t few .numbers n r (g ∙ ap (λ x. refusal x r) i))
 
 -- A question that an input gives is refused as 1, 2, 4 or 7 only.
-pub refusals : (input : List ℕ) (t allowance runs count : ℕ) → parsed input .outcome ≡ text.question t allowance runs count → (n p a b q : ℕ)
-    → asked (take count (parsed input .numbers)) (take runs (parsed input .ends)) t allowance .outcome ≡ refused n p a b q
+pub refusals : (failed : Bool) (input : List ℕ) (t allowance runs count : ℕ) → parsed failed input .outcome ≡ text.question t allowance runs count → (n p a b q : ℕ)
+    → asked (take count (parsed failed input .numbers)) (take runs (parsed failed input .ends)) t allowance .outcome ≡ refused n p a b q
     → (n ≡ 1) ⊎ ((n ≡ 2) ⊎ ((n ≡ 4) ⊎ (n ≡ 7)))
 unfolding asked OfThese
-refusals input t allowance runs count e n p a b q o =
-    let r = parsed-runs input t allowance runs count e in
-    let s : asked (take count (parsed input .numbers)) (take runs (parsed input .ends)) t allowance .outcome
+refusals failed input t allowance runs count e n p a b q o =
+    let r = parsed-runs failed input t allowance runs count e in
+    let s : asked (take count (parsed failed input .numbers)) (take runs (parsed failed input .ends)) t allowance .outcome
     ≡ asked (text.row (r .rs)) (text.endsFrom 0 (r .rs)) t allowance .outcome =
     λ i. asked (r .numbers-are i) (r .ends-are i) t allowance .outcome in
     ⊎-elim
@@ -290,40 +290,40 @@ result-fault text.noHeading l a b n p e = cc
 result-fault (text.heading u v) (text.faultAt line) a b n p e = cc
 result-fault (text.heading u v) (text.runsAre rs) a b n p e = refused-not (sym e)
 
-lines-fault : (longer : Bool) (ls : List (List ℕ)) (a b : List ℕ) (n p : ℕ) → text.parseLines longer ls a b .outcome ≡ text.refused n p → n ≡ 12
+lines-fault : (more : Bool) (ls : List (List ℕ)) (a b : List ℕ) (n p : ℕ) → text.parseLines more ls a b .outcome ≡ text.refused n p → n ≡ 12
 unfolding text.parseLines
-lines-fault longer [] a b n p e = result-fault text.noHeading (text.runsAre []) a b n p e
-lines-fault longer (l ∷ []) a b n p e = result-fault text.noHeading (text.runsAre []) a b n p e
-lines-fault longer (l ∷ next ∷ ls) a b n p e =
-    result-fault (text.headingOf l) (text.limited longer (text.linesFrom (record { runs = length b; numbers = length a }) 0 0 (next ∷ ls))) a b n p e
+lines-fault more [] a b n p e = result-fault text.noHeading (text.runsAre []) a b n p e
+lines-fault more (l ∷ []) a b n p e = result-fault text.noHeading (text.runsAre []) a b n p e
+lines-fault more (l ∷ next ∷ ls) a b n p e =
+    result-fault (text.headingOf l) (text.limited more (text.linesFrom (record { runs = length b; numbers = length a }) 0 0 (next ∷ ls))) a b n p e
 
-pub fault : (input : List ℕ) (n p : ℕ) → parsed input .outcome ≡ text.refused n p → n ≡ 12
+pub fault : (failed : Bool) (input : List ℕ) (n p : ℕ) → parsed failed input .outcome ≡ text.refused n p → n ≡ 12
 unfolding parsed text.parse
-fault input n p e = lines-fault (ltb mostBytes (length input)) (split 10 (take mostBytes input)) (replicate inputNumbers 0) (replicate inputRuns 0) n p e
+fault failed input n p e = lines-fault (failed || ltb mostBytes (length input)) (split 10 (take mostBytes input)) (replicate inputNumbers 0) (replicate inputRuns 0) n p e
 
 -- An answer is printed, or a refusal by 1, 2, 4, 7 or 12.
 data Prints (text : List ℕ) : Type 0 where
   an-answer : (answers parts bytes probes : ℕ) (certificate : List ℕ) → text ≡ rendered (accepted answers parts bytes probes) certificate → Prints text
   a-refusal : (number place : ℕ) → Printable number → text ≡ refuseLine number place → Prints text
 
-prints : (input : List ℕ) → Prints (hits input)
+prints : (failed : Bool) (input : List ℕ) → Prints (hits failed input)
 unfolding Printable textFor shown rendered
-prints input = go (parsed input .outcome) refl
+prints failed input = go (parsed failed input .outcome) refl
   where
-    told : (t allowance runs count : ℕ) → parsed input .outcome ≡ text.question t allowance runs count → (o : Outcome)
-        → asked (take count (parsed input .numbers)) (take runs (parsed input .ends)) t allowance .outcome ≡ o → Prints (hits input)
+    told : (t allowance runs count : ℕ) → parsed failed input .outcome ≡ text.question t allowance runs count → (o : Outcome)
+        → asked (take count (parsed failed input .numbers)) (take runs (parsed failed input .ends)) t allowance .outcome ≡ o → Prints (hits failed input)
     told t allowance runs count e (accepted a n b q) o =
-        let x = asked (take count (parsed input .numbers)) (take runs (parsed input .ends)) t allowance in
-        an-answer a n b q (x .certificate) (prints-question input t allowance runs count e ∙ ap (λ y. rendered y (x .certificate)) o)
+        let x = asked (take count (parsed failed input .numbers)) (take runs (parsed failed input .ends)) t allowance in
+        an-answer a n b q (x .certificate) (prints-question failed input t allowance runs count e ∙ ap (λ y. rendered y (x .certificate)) o)
     told t allowance runs count e (refused n p a b q) o =
-        let x = asked (take count (parsed input .numbers)) (take runs (parsed input .ends)) t allowance in
+        let x = asked (take count (parsed failed input .numbers)) (take runs (parsed failed input .ends)) t allowance in
         a-refusal n p
         (⊎-elim (λ i. inl i) (λ h. inr (⊎-elim (λ i. inl i) (λ h. inr (⊎-elim (λ i. inl i) (λ i. inr (inl i)) h)) h))
-        (refusals input t allowance runs count e n p a b q o))
-        (prints-question input t allowance runs count e ∙ ap (λ y. rendered y (x .certificate)) o)
+        (refusals failed input t allowance runs count e n p a b q o))
+        (prints-question failed input t allowance runs count e ∙ ap (λ y. rendered y (x .certificate)) o)
 
-    go : (o : text.Outcome) → parsed input .outcome ≡ o → Prints (hits input)
-    go (text.refused n p) e = a-refusal n p (inr (inr (inr (inr (fault input n p e))))) (prints-refusal input n p e)
+    go : (o : text.Outcome) → parsed failed input .outcome ≡ o → Prints (hits failed input)
+    go (text.refused n p) e = a-refusal n p (inr (inr (inr (inr (fault failed input n p e))))) (prints-refusal failed input n p e)
     go (text.question t allowance runs count) e = told t allowance runs count e _ refl
 
 -- ---- the line of a refusal tells its number
@@ -375,10 +375,10 @@ answer-not (answer v w ∷ ps) a n q m p e = let z : _≡_ {A = ℕ} 104 114 = c
 answer-not (gap f l w ∷ ps) a n q m p e = let z : _≡_ {A = ℕ} 103 114 = cc in absurd (omega arith)
 
 -- Whatever the input is: if the line of a refusal is printed for it, the number is 1, 2, 4, 7 or 12, never 3, 5 or 6.
-pub printed-refusals : (input : List ℕ) (n p : ℕ) → hits input ≡ refuseLine n p → Printable n
+pub printed-refusals : (failed : Bool) (input : List ℕ) (n p : ℕ) → hits failed input ≡ refuseLine n p → Printable n
 unfolding rendered
-printed-refusals input n p e = go (prints input)
+printed-refusals failed input n p e = go (prints failed input)
   where
-    go : Prints (hits input) → Printable n
+    go : Prints (hits failed input) → Printable n
     go (an-answer a m b q certificate k) = answer-not (partsHeld (take b certificate)) a m q n p (sym k ∙ e)
     go (a-refusal m r h k) = subst Printable (same-number m r n p (sym k ∙ e)) h

@@ -15,3 +15,10 @@ refusedInput = bytes "2 2\n2 5 9\n5 7 9 12\n1 9\n"
 
 unfoldable pub refusedText : List ℕ
 refusedText = bytes "refuse 7 4\n"
+
+-- the listing's first three lines, after which a read fails (docs/SPECIFICATION.md, 'The program hits')
+unfoldable pub partInput : List ℕ
+partInput = bytes "2 3\n2 5 9\n5 7 9 12\n"
+
+unfoldable pub partText : List ℕ
+partText = bytes "refuse 12 4\n"

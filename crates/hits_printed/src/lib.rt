@@ -1,1 +1,2 @@
-// What the program hits prints, as theorems: the text of document 01's listing, and which refusals can be printed. No code.
+// What the program hits prints, as theorems: the text of document 01's listing, which refusals can be printed, and what is printed if a read fails.
+// No code.

@@ -9,6 +9,7 @@
 
 pub mod broken;
 pub mod certificates;
+pub mod printed;
 pub mod program;
 pub mod question;
 pub mod shapes;

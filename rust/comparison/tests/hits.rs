@@ -1,90 +1,17 @@
 //! The program `hits` against the reference, byte for byte: stored runs, and
 //! good questions, broken texts and texts at the limits from seeds.
 
-use comparison::program::{self, print_of};
+use comparison::printed::{front, Comparer};
+use comparison::program;
 use comparison::seeds;
 use comparison::texts::{break_bytes, near_a_limit, short_bytes, Text, MOST_BYTES};
 use reference::testing::{instances, Random, M};
-use std::collections::{BTreeMap, BTreeSet};
 use std::fs;
-use std::path::PathBuf;
-
-/// Runs the program and counts its refusals; 0 stands for none.
-struct Comparer {
-    program: PathBuf,
-    places: BTreeMap<u64, Vec<u64>>,
-}
-
-impl Comparer {
-    fn new() -> Comparer {
-        Comparer {
-            program: program::hits(),
-            places: BTreeMap::new(),
-        }
-    }
-
-    /// Compares what both print for the input.
-    fn compare(&mut self, name: &str, input: &[u8]) {
-        self.compare_pieces(name, input, input.len() + 1);
-    }
-
-    /// The same with the input handed to the program in pieces of a size.
-    fn compare_pieces(&mut self, name: &str, input: &[u8], size: usize) {
-        let pieces: Vec<&[u8]> = input.chunks(size).collect();
-        let printed = print_of(&self.program, &pieces);
-        let expected = reference::hits(input);
-        assert!(
-            printed == expected,
-            "{name}: {} bytes, {}\nprinted {}\nexpected {}",
-            input.len(),
-            front(input),
-            front(&printed),
-            front(&expected)
-        );
-        let text = String::from_utf8(expected).expect("it is ASCII");
-        let mut words = text.split_whitespace();
-        let refusal = match words.next() {
-            Some("refuse") => words.map(|word| word.parse().expect("a number")).collect(),
-            _ => vec![0, 0],
-        };
-        self.places.entry(refusal[0]).or_default().push(refusal[1]);
-    }
-
-    fn compare_seed(&mut self, seed: u64, input: &[u8]) {
-        self.compare(&format!("seed {seed}"), input);
-    }
-
-    /// Each of these refusals was met so often, and at several places.
-    fn met(&self, refusals: &[(u64, usize, usize)]) {
-        let counts: BTreeMap<u64, (usize, usize)> = self
-            .places
-            .iter()
-            .map(|(&refusal, places)| {
-                let different: BTreeSet<_> = places.iter().collect();
-                (refusal, (places.len(), different.len()))
-            })
-            .collect();
-        println!("by refusal, times and different places: {counts:?}");
-        for (refusal, times, places) in refusals {
-            let found = counts.get(refusal).unwrap_or(&(0, 0));
-            assert!(found.0 >= *times && found.1 >= *places, "{counts:?}");
-        }
-    }
-}
-
-/// The first bytes, for a failure's message.
-fn front(bytes: &[u8]) -> String {
-    const MOST: usize = 600;
-    match bytes.get(..MOST) {
-        None => format!("\"{}\"", bytes.escape_ascii()),
-        Some(front) => format!("\"{}\" and so on", front.escape_ascii()),
-    }
-}
 
 /// The stored inputs; the reference prints the stored outputs.
 #[test]
 fn stored_runs() {
-    let mut comparer = Comparer::new();
+    let mut comparer = Comparer::of_hits();
     let folder = program::repository().join("examples/hits");
     for entry in fs::read_dir(folder).unwrap() {
         let path = entry.unwrap().path();
@@ -92,7 +19,11 @@ fn stored_runs() {
             let name = path.display().to_string();
             let input = fs::read(&path).unwrap();
             let output = fs::read(path.with_extension("out")).unwrap();
-            assert_eq!(front(&reference::hits(&input)), front(&output), "{name}");
+            assert_eq!(
+                front(&reference::hits(&input, false)),
+                front(&output),
+                "{name}"
+            );
             comparer.compare(&name, &input);
         }
     }
@@ -108,7 +39,7 @@ fn stored_runs() {
 
 #[test]
 fn instances_of_document_01() {
-    let mut comparer = Comparer::new();
+    let mut comparer = Comparer::of_hits();
     for instance in instances() {
         let text = Text::of(instance.threshold, instance.allowance, &instance.runs);
         comparer.compare(&instance.name, &text.bytes());
@@ -126,7 +57,7 @@ fn instances_of_document_01() {
 /// Questions that can be read.
 #[test]
 fn good_questions() {
-    let mut comparer = Comparer::new();
+    let mut comparer = Comparer::of_hits();
     for seed in seeds(51, 2_500) {
         let mut random = Random(seed);
         let mut text = Text::any(&mut random);
@@ -139,7 +70,7 @@ fn good_questions() {
 /// Good questions with one to three changes.
 #[test]
 fn broken_texts() {
-    let mut comparer = Comparer::new();
+    let mut comparer = Comparer::of_hits();
     for seed in seeds(52, 3_000) {
         let mut random = Random(seed);
         let mut text = Text::any(&mut random);
@@ -165,7 +96,7 @@ fn broken_texts() {
 /// Texts with about as many bytes, runs or numbers as there may be.
 #[test]
 fn texts_near_the_limits() {
-    let mut comparer = Comparer::new();
+    let mut comparer = Comparer::of_hits();
     for seed in seeds(53, 1_500) {
         let mut random = Random(seed);
         let mut bytes = near_a_limit(&mut random).bytes();
@@ -177,10 +108,16 @@ fn texts_near_the_limits() {
     comparer.met(&[(0, 300, 1), (12, 500, 60)]);
 }
 
-/// Inputs of every length about the limit of bytes, whatever stands there.
+/// Inputs of every length about the limit of bytes, whatever stands there and
+/// whether they end there or a read then fails.
 #[test]
 fn every_length_about_the_limit() {
-    let mut comparer = Comparer::new();
+    let mut comparer = Comparer::of_hits();
+    let mut compare = |name: &str, input: &[u8]| {
+        for failed in [false, true] {
+            comparer.compare_pieces(name, &[input], failed);
+        }
+    };
     for length in MOST_BYTES - 3..=MOST_BYTES + 3 {
         for (front, back) in [
             ("1 0\n5\n", "7\n"),
@@ -195,20 +132,20 @@ fn every_length_about_the_limit() {
         ] {
             let zeros = "0".repeat(length - front.len() - back.len());
             let input = format!("{front}{zeros}{back}");
-            comparer.compare(&format!("{length} bytes, {back:?}"), input.as_bytes());
+            compare(&format!("{length} bytes, {back:?}"), input.as_bytes());
         }
         let line_ends = vec![b'\n'; length];
-        comparer.compare(&format!("{length} line ends"), &line_ends);
+        compare(&format!("{length} line ends"), &line_ends);
         let others = vec![0xff; length];
-        comparer.compare(&format!("{length} bytes 255"), &others);
+        compare(&format!("{length} bytes 255"), &others);
     }
-    comparer.met(&[(0, 3, 1), (1, 1, 1), (12, 30, 3)]);
+    comparer.met(&[(0, 3, 1), (1, 1, 1), (12, 100, 4)]);
 }
 
 /// Short inputs, and all of at most two bytes of a few kinds.
 #[test]
 fn short_inputs() {
-    let mut comparer = Comparer::new();
+    let mut comparer = Comparer::of_hits();
     for seed in seeds(54, 1_500) {
         let mut random = Random(seed);
         comparer.compare_seed(seed, &short_bytes(&mut random));
@@ -227,7 +164,7 @@ fn short_inputs() {
 /// Lines of a run, and first lines, at the edges of the form.
 #[test]
 fn lines_at_the_edges() {
-    let mut comparer = Comparer::new();
+    let mut comparer = Comparer::of_hits();
     let long = format!("{}1", "0".repeat(5_000));
     let words = [
         "",
@@ -279,7 +216,7 @@ fn lines_at_the_edges() {
 /// An input that reaches the program bit by bit is read to its end.
 #[test]
 fn inputs_in_pieces() {
-    let mut comparer = Comparer::new();
+    let mut comparer = Comparer::of_hits();
     for seed in seeds(55, 60) {
         let mut random = Random(seed);
         let mut text = Text::any(&mut random);
@@ -288,7 +225,8 @@ fn inputs_in_pieces() {
         }
         let bytes = text.bytes();
         let size = bytes.len() / random.from_to(2, 12) + 1;
-        comparer.compare_pieces(&format!("seed {seed}"), &bytes, size);
+        let pieces: Vec<&[u8]> = bytes.chunks(size).collect();
+        comparer.compare_pieces(&format!("seed {seed}"), &pieces, false);
     }
     comparer.met(&[(0, 10, 1)]);
 }

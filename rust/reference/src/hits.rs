@@ -8,9 +8,10 @@ const ANSWER_ROOM: usize = 1_024;
 const CERTIFICATE_ROOM: usize = 65_536;
 
 /// Returns what the program `hits` prints for an input: the parts of the
-/// certificate and the counts, or one line that tells the refusal.
-pub fn hits(input: &[u8]) -> Vec<u8> {
-    let text = match parse(input) {
+/// certificate and the counts, or one line that tells the refusal. `failed`
+/// says that a read failed after the input.
+pub fn hits(input: &[u8], failed: bool) -> Vec<u8> {
+    let text = match parse(input, failed) {
         Ok(question) => report(&question),
         Err(line) => refusal(12, line as u64),
     };

@@ -18,13 +18,24 @@ pub struct Question {
     pub ends: Vec<u32>,
 }
 
-/// Returns the question, or the number of the first line that cannot be read.
-pub fn parse(input: &[u8]) -> Result<Question, usize> {
-    // A byte beyond the limit is a fault in its own line, and so matters only
-    // if all lines that end within the limit can be read.
+/// Returns the question, or the number of the first line with a fault.
+/// `failed` says that a read failed after these bytes.
+pub fn parse(input: &[u8], failed: bool) -> Result<Question, usize> {
     let text = &input[..input.len().min(MAX_INPUT_BYTES)];
-    let mut lines = text.split_inclusive(|&byte| byte == b'\n');
+    let question = read_lines(text);
+    if input.len() <= MAX_INPUT_BYTES && !failed {
+        return question;
+    }
+    // A byte beyond the limit, or one that could not be read, is a fault in
+    // its own line; an earlier line with a fault comes first.
+    let line = 1 + text.iter().filter(|&&byte| byte == b'\n').count();
+    Err(question.err().unwrap_or(line).min(line))
+}
 
+/// The question of a text within the limit of bytes, or the number of the
+/// first line that cannot be read.
+fn read_lines(text: &[u8]) -> Result<Question, usize> {
+    let mut lines = text.split_inclusive(|&byte| byte == b'\n');
     let (threshold, allowance) = lines.next().and_then(read_first_line).ok_or(1_usize)?;
     let mut question = Question {
         threshold,
@@ -43,9 +54,6 @@ pub fn parse(input: &[u8]) -> Result<Question, usize> {
             return Err(line_number);
         }
         question.ends.push(question.numbers.len() as u32);
-    }
-    if input.len() > MAX_INPUT_BYTES {
-        return Err(question.ends.len() + 2);
     }
     Ok(question)
 }

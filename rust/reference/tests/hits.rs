@@ -7,7 +7,7 @@ use reference::testing::{Random, M};
 use reference::{hits, Part};
 
 fn prints(input: impl AsRef<[u8]>, expected: &str) {
-    let output = String::from_utf8(hits(input.as_ref())).unwrap();
+    let output = String::from_utf8(hits(input.as_ref(), false)).unwrap();
     assert_eq!(output, expected);
 }
 
@@ -16,7 +16,7 @@ fn refuses(input: impl AsRef<[u8]>, number: u8, place: u64) {
 }
 
 fn is_accepted(input: impl AsRef<[u8]>) {
-    let output = String::from_utf8(hits(input.as_ref())).unwrap();
+    let output = String::from_utf8(hits(input.as_ref(), false)).unwrap();
     assert!(!output.starts_with("refuse"), "{output}");
     assert!(output.ends_with('\n'));
     assert!(output.lines().last().unwrap().starts_with("done "));
@@ -31,6 +31,13 @@ fn smaller_allowances() {
 #[test]
 fn an_empty_input() {
     refuses("", 12, 1);
+}
+
+#[test]
+fn a_read_that_fails_is_not_the_end() {
+    let input = b"2 3\n2 5 9\n5 7 9 12\n";
+    assert_eq!(hits(input, true), b"refuse 12 4\n");
+    is_accepted(input);
 }
 
 #[test]
@@ -101,9 +108,9 @@ fn empty_runs() {
 fn leading_zeros() {
     let plain = "2 3\n2 5 9\n5 7 9 12\n1 9\n";
     let zeros = "0002 03\n02 005 0009\n5 07 9 00000000000012\n1 9\n";
-    assert_eq!(hits(plain.as_bytes()), hits(zeros.as_bytes()));
+    assert_eq!(hits(plain.as_bytes(), false), hits(zeros.as_bytes(), false));
     let many = format!("1 0\n{}7\n", "0".repeat(50_000));
-    assert_eq!(hits(many.as_bytes()), hits(b"1 0\n7\n"));
+    assert_eq!(hits(many.as_bytes(), false), hits(b"1 0\n7\n", false));
     prints("1 0\n00\n", "hit 0 1\ngap 1 4294967295 1\ndone 1 2 0\n");
 }
 
@@ -230,8 +237,8 @@ fn number_1025() {
 #[test]
 fn the_largest_output_fits_the_buffers() {
     let numbers: Vec<String> = (0..1024).map(|i| (3 * i + 1).to_string()).collect();
-    let output =
-        String::from_utf8(hits(format!("1 0\n{}\n", numbers.join(" ")).as_bytes())).unwrap();
+    let input = format!("1 0\n{}\n", numbers.join(" "));
+    let output = String::from_utf8(hits(input.as_bytes(), false)).unwrap();
     assert!(output.ends_with("done 1024 2049 0\n"));
     assert_eq!(output.lines().count(), 2050);
 }
@@ -378,8 +385,9 @@ fn random_inputs() {
             input.retain(|&byte| byte != b'x' && byte != b'\r');
             input.push(b'\n');
         }
-        let output = hits(&input);
-        match first_bad_line(&input) {
+        let output = hits(&input, false);
+        let bad_line = first_bad_line(&input);
+        match bad_line {
             Some(line) => {
                 refused += 1;
                 assert_eq!(output, format!("refuse 12 {line}\n").as_bytes());
@@ -389,6 +397,11 @@ fn random_inputs() {
                 assert!(!output.starts_with(b"refuse 12"));
             }
         }
+        // A read that fails is a fault in the line of the byte after the input.
+        let line_ends = input.iter().filter(|&&byte| byte == b'\n').count();
+        let line = bad_line.unwrap_or(1 + line_ends as u64);
+        let output = hits(&input, true);
+        assert_eq!(output, format!("refuse 12 {line}\n").as_bytes());
     }
     assert!(readable > 1_000 && refused > 1_000);
 }

@@ -116,5 +116,5 @@ fn the_printed_listing() {
                    gap 10 4294967295 5\n\
                    done 2 6 3\n";
     let input = b"2 3\n2 5 9\n5 7 9 12\n1 9\n";
-    assert_eq!(hits(input), printed.as_bytes());
+    assert_eq!(hits(input, false), printed.as_bytes());
 }

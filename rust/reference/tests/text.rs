@@ -9,11 +9,16 @@ fn reads(input: impl AsRef<[u8]>, threshold: u32, allowance: u32, numbers: &[u32
         numbers: numbers.to_vec(),
         ends: ends.to_vec(),
     };
-    assert_eq!(parse(input.as_ref()), Ok(expected));
+    assert_eq!(parse(input.as_ref(), false), Ok(expected));
 }
 
 fn fails(input: impl AsRef<[u8]>, line: usize) {
-    assert_eq!(parse(input.as_ref()), Err(line));
+    assert_eq!(parse(input.as_ref(), false), Err(line));
+}
+
+/// A read fails after the input.
+fn fails_unread(input: impl AsRef<[u8]>, line: usize) {
+    assert_eq!(parse(input.as_ref(), true), Err(line));
 }
 
 #[test]
@@ -81,4 +86,39 @@ fn bytes_up_to_the_limit() {
     reads(zeros(65_531), 1, 0, &[0], &[1]);
     fails(zeros(65_532), 2);
     fails(zeros(65_531) + "\n", 3);
+}
+
+#[test]
+fn a_read_that_fails() {
+    fails_unread("", 1);
+    fails_unread("2", 1);
+    fails_unread("2 3", 1);
+    fails_unread("2 3\n", 2);
+    fails_unread("2 3\n5", 2);
+    fails_unread("2 3\n5 ", 2);
+    fails_unread("2 3\n5\n", 3);
+    fails_unread("2 3\n2 5 9\n5 7 9 12\n", 4);
+    fails_unread("2 3\n2 5 9\n5 7 9 12\n1 9\n", 5);
+}
+
+#[test]
+fn a_fault_before_a_read_that_fails() {
+    fails_unread("x\n5\n", 1);
+    fails_unread("2 3\nx\n5\n", 2);
+    fails_unread("2 3\n5\n5 \n\n", 3);
+    fails_unread("2 3\n5\n4294967296\n7", 3);
+}
+
+#[test]
+fn a_read_that_fails_at_the_limits() {
+    let lines = |n: usize| format!("1 0\n{}", "\n".repeat(n));
+    fails_unread(lines(63), 65);
+    fails_unread(lines(64), 66);
+    fails_unread(lines(65), 66);
+    let zeros = |n: usize| format!("1 0\n{}\n", "0".repeat(n));
+    fails_unread(zeros(65_530), 3);
+    fails_unread(zeros(65_531), 3);
+    fails_unread(zeros(65_532), 2);
+    fails_unread(zeros(65_531) + "\n", 3);
+    fails_unread(zeros(65_531) + "\n\n", 3);
 }

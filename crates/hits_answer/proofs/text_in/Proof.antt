@@ -28,13 +28,13 @@ enum-known-threshold c = search needs
 told : (c : tie.After-threshold)
     → (let u = c .before .before .before .before .before .before in
     let a = u .before .before .before .before .before .before .before .args in
-    Returns (text.parse (a .input .now) (a .numbers .now) (a .ends .now))
+    Returns (text.parse (a .failed) (a .input .now) (a .numbers .now) (a .ends .now))
     (text.question (c .threshold .given .0 .0) (c .threshold .given .0 .1 .0) (c .threshold .given .0 .1 .1 .0) (c .threshold .given .0 .1 .1 .1 .0))
-    (u .parse .last .1 .0) (u .parse .last .1 .1 .0))
+    (u .parse .last .1 .1 .0) (u .parse .last .1 .1 .1 .0))
 told c =
     let u = c .before .before .before .before .before .before in
     let a = u .before .before .before .before .before .before .before .args in
-    subst (λ r. Returns (text.parse (a .input .now) (a .numbers .now) (a .ends .now)) (outcomeIs r) (u .parse .last .1 .0) (u .parse .last .1 .1 .0))
+    subst (λ r. Returns (text.parse (a .failed) (a .input .now) (a .numbers .now) (a .ends .now)) (outcomeIs r) (u .parse .last .1 .1 .0) (u .parse .last .1 .1 .1 .0))
     (c .threshold .given .1) (u .parse .ensures)
 
 sub-ask : tie.Need-sub-ask
@@ -47,7 +47,7 @@ part-ask-end : tie.Need-part-ask-end
 part-ask-end c =
     let q = told (c .before .before) in
     let a = c .before .before .before .before .before .before .before .before .before .before .before .before .before .before .before .args in
-    question-fits (a .input .now) (a .numbers .now) (a .ends .now) _ _ _ _ _ _ q .0
+    question-fits (a .failed) (a .input .now) (a .numbers .now) (a .ends .now) _ _ _ _ _ _ q .0
 
 sub-ask-2 : tie.Need-sub-ask-2
 sub-ask-2 c = search needs
@@ -59,7 +59,7 @@ part-ask-end-2 : tie.Need-part-ask-end-2
 part-ask-end-2 c =
     let q = told (c .before .before .before .before) in
     let a = c .before .before .before .before .before .before .before .before .before .before .before .before .before .before .before .before .before .args in
-    question-fits (a .input .now) (a .numbers .now) (a .ends .now) _ _ _ _ _ _ q .1
+    question-fits (a .failed) (a .input .now) (a .numbers .now) (a .ends .now) _ _ _ _ _ _ q .1
 
 ask-requires : tie.Need-ask-requires
 ask-requires c κs = search needs
@@ -81,9 +81,9 @@ returns c =
     let u = f .before .before .before .before .before .before in
     let s = u .before .before .before .before .before .before .before in
     let a = s .args in
-    let q = subst (λ r. Returns (text.parse (a .input .now) (a .numbers .now) (a .ends .now)) (outcomeIs r) (u .parse .last .1 .0) (u .parse .last .1 .1 .0))
+    let q = subst (λ r. Returns (text.parse (a .failed) (a .input .now) (a .numbers .now) (a .ends .now)) (outcomeIs r) (u .parse .last .1 .1 .0) (u .parse .last .1 .1 .1 .0))
     (f .line .given .1) (u .parse .ensures) in
-    let e = refusal-text (a .input .now) (a .numbers .now) (a .ends .now) _ _ (f .line .given .0 .0) (s .pre .0) (s .pre .1) q in (
+    let e = refusal-text (a .failed) (a .input .now) (a .numbers .now) (a .ends .now) _ _ (f .line .given .0 .0) (s .pre .0) (s .pre .1) q in (
       subst (λ x. Shows x (a .text .now) (p .refuse .last .1 .1 .0) (p .refuse .result)) e (p .refuse .ensures .0),
       λ h. p .refuse .ensures .1 (omega arith) ∙ ap (λ x. Text (length x)) e,
     )
@@ -103,7 +103,7 @@ returns-2 c =
     let f = p .before .before .before .before .before .before .before in
     let s = f .before .before .before .before .before .before .before .before .before .before .before .before .before in
     let a = s .args in
-    let e = question-text (a .input .now) (a .numbers .now) (a .ends .now) _ _ _ _ _ _ (s .pre .0) (s .pre .1) (told f) in (
+    let e = question-text (a .failed) (a .input .now) (a .numbers .now) (a .ends .now) _ _ _ _ _ _ (s .pre .0) (s .pre .1) (told f) in (
       subst (λ x. Shows x (a .text .now) (p .ask .last .1 .1 .1 .1 .0) (p .ask .result)) e (p .ask .ensures .0),
       λ h. p .ask .ensures .1 h ∙ ap (λ x. Text (length x)) e,
     )

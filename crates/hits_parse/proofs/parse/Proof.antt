@@ -33,7 +33,7 @@ returns c =
     let i = u .before .before .before .before in
     let a = i .before .before .before .before .before .args in
     subst⁻¹ (λ x. Returns x (outcomeIs (u .parse-bytes .result)) (u .parse-bytes .last .1 .1 .0) (u .parse-bytes .last .1 .1 .1 .0))
-    (parse-long (a .input .now) (a .numbers .now) (a .ends .now) _ (i .before .most-bytes .ensures) (i .if1 .taken)) (u .parse-bytes .ensures)
+    (parse-long (a .failed) (a .input .now) (a .numbers .now) (a .ends .now) _ (i .before .most-bytes .ensures) (i .if1 .taken)) (u .parse-bytes .ensures)
 
 parse-bytes-requires-2 : tie.Need-parse-bytes-requires-2
 parse-bytes-requires-2 c κs = search needs
@@ -50,7 +50,7 @@ returns-2 c =
     let i = u .before .before .before in
     let a = i .before .before .before .before .before .args in
     subst⁻¹ (λ x. Returns x (outcomeIs (u .parse-bytes2 .result)) (u .parse-bytes2 .last .1 .1 .0) (u .parse-bytes2 .last .1 .1 .1 .0))
-    (parse-short (a .input .now) (a .numbers .now) (a .ends .now) _ (i .before .most-bytes .ensures) (i .if1 .left)) (u .parse-bytes2 .ensures)
+    (parse-short (a .failed) (a .input .now) (a .numbers .now) (a .ends .now) _ (i .before .most-bytes .ensures) (i .if1 .left)) (u .parse-bytes2 .ensures)
 
 pub parse-spec : {M : Type 1} → statement M
 parse-spec =

@@ -8,7 +8,7 @@ use Rattle.hits_input.specs.Input.{heading, headingOf}
 use Rattle.hits_heading.specs.Heading.{headingIs}
 use Rattle.hits_lines.specs.Lines.{scanned, Within, linesAt}
 use Rattle.hits_lines.specs.declared.Scan.the-variants.{Runs}
-use Rattle.hits_parse.proofs.Parsing.{no-end, line-inside, no-heading, line-fault, too-long, readable, stored, within-runs}
+use Rattle.hits_parse.proofs.Parsing.{no-end, line-inside, no-heading, line-fault, more-refused, readable, stored, within-runs}
 use Rattle.hits_parse.proofs.parse_bytes.Statement.{statement}
 use Rattle.hits_parse.proofs.parse_bytes.Tie as tie
 
@@ -18,7 +18,7 @@ first-of-requires c κs = search needs
 returns : tie.Need-returns
 returns c =
     let a = c .before .before .before .before .before .args in
-    no-end (a .longer) (a .bytes .now) (a .numbers .now) (a .ends .now) (sym (c .before .first-of .ensures) ∙ c .if1 .taken)
+    no-end (a .more) (a .bytes .now) (a .numbers .now) (a .ends .now) (sym (c .before .first-of .ensures) ∙ c .if1 .taken)
 
 sub-read-first : tie.Need-sub-read-first
 sub-read-first c = search needs
@@ -31,7 +31,7 @@ part-read-first-end c =
     let d = c in
     let f = d .before in
     let a = f .before .before .before .before .args in
-    let h = line-inside (a .longer) (a .bytes .now) (a .numbers .now) (a .ends .now) (f .first-of .result) (f .first-of .ensures) (d .if1 .left) in
+    let h = line-inside (a .more) (a .bytes .now) (a .numbers .now) (a .ends .now) (f .first-of .result) (f .first-of .ensures) (d .if1 .left) in
     omega (arith, h)
 
 read-first-requires : tie.Need-read-first-requires
@@ -48,7 +48,7 @@ returns-2 c =
     let d = c .before .before .before .before in
     let f = d .before in
     let a = f .before .before .before .before .args in
-    no-heading (a .longer) (a .bytes .now) (a .numbers .now) (a .ends .now) (f .first-of .result) (f .first-of .ensures) (d .if1 .left) (sym (c .before .before .read-first .ensures) ∙ ap headingIs (c .enum-told .given .1))
+    no-heading (a .more) (a .bytes .now) (a .numbers .now) (a .ends .now) (f .first-of .result) (f .first-of .ensures) (d .if1 .left) (sym (c .before .before .read-first .ensures) ∙ ap headingIs (c .enum-told .given .1))
 
 -- line 1's numbers
 heading-is : (c : tie.After-known-told) → (let f = c .before .before .before .before .before .before in let g = c .before .threshold .given .0 in
@@ -69,7 +69,7 @@ add-start c =
     let d = c .before .before .before .before .before in
     let f = d .before in
     let a = f .before .before .before .before .args in
-    let h = line-inside (a .longer) (a .bytes .now) (a .numbers .now) (a .ends .now) (f .first-of .result) (f .first-of .ensures) (d .if1 .left) in
+    let h = line-inside (a .more) (a .bytes .now) (a .numbers .now) (a .ends .now) (f .first-of .result) (f .first-of .ensures) (d .if1 .left) in
     omega (arith, h)
 
 scan-lines-requires : tie.Need-scan-lines-requires
@@ -77,7 +77,7 @@ scan-lines-requires c κs =
     let d = c .before .before .before .before .before in
     let f = d .before in
     let a = f .before .before .before .before .args in
-    let h = line-inside (a .longer) (a .bytes .now) (a .numbers .now) (a .ends .now) (f .first-of .result) (f .first-of .ensures) (d .if1 .left) in
+    let h = line-inside (a .more) (a .bytes .now) (a .numbers .now) (a .ends .now) (f .first-of .result) (f .first-of .ensures) (d .if1 .left) in
     (omega (arith, h), f .before .before .before .before .pre)
 
 enum-known-line : tie.Need-enum-known-line
@@ -94,21 +94,21 @@ returns-3 c =
     let d = c .before .before .before .before .before .before .before .before .before .before in
     let f = d .before in
     let a = f .before .before .before .before .args in
-    too-long (a .longer) (a .bytes .now) (a .numbers .now) (a .ends .now) (f .first-of .result) (f .first-of .ensures) (d .if1 .left) (heading-is (c .before .before .before .before .before)) (scan-is (c .before .before)) (c .if2 .taken)
+    more-refused (a .more) (a .bytes .now) (a .numbers .now) (a .ends .now) (f .first-of .result) (f .first-of .ensures) (d .if1 .left) (heading-is (c .before .before .before .before .before)) (scan-is (c .before .before)) (c .if2 .taken)
 
 write-lines-requires : tie.Need-write-lines-requires
 write-lines-requires c κs =
     let d = c .before .before .before .before .before .before .before .before .before .before .before .before in
     let f = d .before in
     let a = f .before .before .before .before .args in
-    readable (a .longer) (a .bytes .now) (a .numbers .now) (a .ends .now) (f .first-of .result) (f .first-of .ensures) (d .if1 .left) (heading-is (c .before .before .before .before .before .before .before)) (scan-is (c .before .before .before .before)) (f .before .before .before .before .pre)
+    readable (a .more) (a .bytes .now) (a .numbers .now) (a .ends .now) (f .first-of .result) (f .first-of .ensures) (d .if1 .left) (heading-is (c .before .before .before .before .before .before .before)) (scan-is (c .before .before .before .before)) (f .before .before .before .before .pre)
 
 returns-4 : tie.Need-returns-4
 returns-4 c =
     let d = c .before .before .before .before .before .before .before .before .before in
     let f = d .before in
     let a = f .before .before .before .before .args in
-    line-fault (a .longer) (a .bytes .now) (a .numbers .now) (a .ends .now) (f .first-of .result) (f .first-of .ensures) (d .if1 .left) (heading-is (c .before .before .before .before)) (sym (c .before .line .given .1) ∙ c .before .before .before .scan-lines .ensures .0)
+    line-fault (a .more) (a .bytes .now) (a .numbers .now) (a .ends .now) (f .first-of .result) (f .first-of .ensures) (d .if1 .left) (heading-is (c .before .before .before .before)) (sym (c .before .line .given .1) ∙ c .before .before .before .scan-lines .ensures .0)
 
 same-length : tie.Need-same-length
 same-length c = search needs
@@ -121,7 +121,7 @@ returns-5 c =
     let d = c .before .before .before .before .before .before .before .before .before .before .before .before .before .before .before .before .before in
     let f = d .before in
     let a = f .before .before .before .before .args in
-    stored (a .longer) (a .bytes .now) (a .numbers .now) (a .ends .now) (f .first-of .result) (f .first-of .ensures) (d .if1 .left) (heading-is (c .before .before .before .before .before .before .before .before .before .before .before .before)) (scan-is (c .before .before .before .before .before .before .before .before .before)) (c .before .before .before .before .before .before .before .if2 .left) (scan-fits (c .before .before .before .before .before .before .before .before .before)) (c .before .before .before .before .write-lines .ensures)
+    stored (a .more) (a .bytes .now) (a .numbers .now) (a .ends .now) (f .first-of .result) (f .first-of .ensures) (d .if1 .left) (heading-is (c .before .before .before .before .before .before .before .before .before .before .before .before)) (scan-is (c .before .before .before .before .before .before .before .before .before)) (c .before .before .before .before .before .before .before .if2 .left) (scan-fits (c .before .before .before .before .before .before .before .before .before)) (c .before .before .before .before .write-lines .ensures)
 
 pub parse-bytes-spec : {M : Type 1} → statement M
 parse-bytes-spec =

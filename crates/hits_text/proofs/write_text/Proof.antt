@@ -26,8 +26,8 @@ returns c =
     let u = f .before .before .before .before in
     let s = u .before .before .before .before in
     let a = s .args in
-    let k : length (u .text-for .last .1 .0) ≡ length (a .text .now) = u .text-for .kept .1 .0 in
-    let t = shown-text (subst (λ r. Shows (hits (a .input .now)) (a .text .now) (u .text-for .last .1 .0) r) (f .size .given .1) (u .text-for .ensures .0)) in
+    let k : length (u .text-for .last .1 .1 .0) ≡ length (a .text .now) = u .text-for .kept .1 .1 .0 in
+    let t = shown-text (subst (λ r. Shows (hits (a .failed) (a .input .now)) (a .text .now) (u .text-for .last .1 .1 .0) r) (f .size .given .1) (u .text-for .ensures .0)) in
     (omega (arith, t .0), t .1)
 
 enum-told : tie.Need-enum-told

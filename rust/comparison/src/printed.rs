@@ -1,0 +1,100 @@
+//! What the program `hits` prints, compared with the reference.
+
+use crate::program::{self, print_of};
+use std::collections::{BTreeMap, BTreeSet};
+use std::path::PathBuf;
+
+/// Runs the program and counts its refusals; 0 stands for none.
+pub struct Comparer {
+    program: PathBuf,
+    places: BTreeMap<u64, Vec<u64>>,
+}
+
+impl Comparer {
+    /// The program that [`program::hits`] finds, with nothing compared yet.
+    ///
+    /// # Panics
+    ///
+    /// If it is missing.
+    pub fn of_hits() -> Comparer {
+        Comparer {
+            program: program::hits(),
+            places: BTreeMap::new(),
+        }
+    }
+
+    /// Compares what both print for the input.
+    ///
+    /// # Panics
+    ///
+    /// If they differ.
+    pub fn compare(&mut self, name: &str, input: &[u8]) {
+        self.compare_pieces(name, &[input], false);
+    }
+
+    /// The same for an input that is made from a seed.
+    ///
+    /// # Panics
+    ///
+    /// If they differ.
+    pub fn compare_seed(&mut self, seed: u64, input: &[u8]) {
+        self.compare(&format!("seed {seed}"), input);
+    }
+
+    /// The same for an input that is handed to the program in pieces, and
+    /// after which a read fails if `failed` says so.
+    ///
+    /// # Panics
+    ///
+    /// If they differ.
+    pub fn compare_pieces(&mut self, name: &str, pieces: &[&[u8]], failed: bool) {
+        let input = pieces.concat();
+        let printed = print_of(&self.program, pieces, failed);
+        let expected = reference::hits(&input, failed);
+        assert!(
+            printed == expected,
+            "{name}, failed {failed}: {} bytes, {}\nprinted {}\nexpected {}",
+            input.len(),
+            front(&input),
+            front(&printed),
+            front(&expected)
+        );
+        let text = String::from_utf8(expected).expect("it is ASCII");
+        let mut words = text.split_whitespace();
+        let refusal = match words.next() {
+            Some("refuse") => words.map(|word| word.parse().expect("a number")).collect(),
+            _ => vec![0, 0],
+        };
+        self.places.entry(refusal[0]).or_default().push(refusal[1]);
+    }
+
+    /// Each of these refusals was met so often, and at several places.
+    ///
+    /// # Panics
+    ///
+    /// If one was not.
+    pub fn met(&self, refusals: &[(u64, usize, usize)]) {
+        let counts: BTreeMap<u64, (usize, usize)> = self
+            .places
+            .iter()
+            .map(|(&refusal, places)| {
+                let different: BTreeSet<_> = places.iter().collect();
+                (refusal, (places.len(), different.len()))
+            })
+            .collect();
+        println!("by refusal, times and different places: {counts:?}");
+        for (refusal, times, places) in refusals {
+            let found = counts.get(refusal).unwrap_or(&(0, 0));
+            assert!(found.0 >= *times && found.1 >= *places, "{counts:?}");
+        }
+    }
+}
+
+/// The first bytes, for a failure's message.
+pub fn front(bytes: &[u8]) -> String {
+    const MOST: usize = 600;
+    match bytes.get(..MOST) {
+        None => format!("\"{}\"", bytes.escape_ascii()),
+        Some(front) => format!("\"{}\" and so on", front.escape_ascii()),
+    }
+}
