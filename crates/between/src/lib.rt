@@ -1,4 +1,4 @@
-// Bins of one run between two numbers (document 01): a part of the caller's own list.
+// Bins of one run between two numbers (docs/SPECIFICATION.md, 'Bins between two numbers'): a part of the caller's own list.
 ghost use mathlib.Core.Path.{_≡_};
 ghost use Rattle.model.specs.Rows.{Rise, rank};
 ghost use Rattle.model.specs.Between.{between};

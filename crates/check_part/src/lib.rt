@@ -1,4 +1,4 @@
-// One part of a certificate checked at the next uncovered bin (document 01, 'Where each refusal arises').
+// One part of a certificate checked at the next uncovered bin (docs/SPECIFICATION.md, 'The refusals').
 ghost use mathlib.Core.Path.{_≡_};
 ghost use mathlib.Core.Bool.{not, _||_};
 ghost use Prim.Native.Nat.{_/_, _^_, _≤_};

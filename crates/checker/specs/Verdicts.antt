@@ -1,4 +1,4 @@
--- What the code's verdict means in document 01's numbers, and demand 2 for a call of the checker. Definitions only.
+-- What the code's verdict means in the numbers of docs/SPECIFICATION.md, 'The refusals', and demand 2 for a call of the checker. Definitions only.
 use Prim.Native.Nat.{ℕ}
 use mathlib.Core.List.{List}
 use mathlib.Core.Path.{_≡_}

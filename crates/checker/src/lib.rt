@@ -1,4 +1,4 @@
-// The checker: whether a certificate's parts cover all bins in order and are true of the runs (document 01, 'Where each refusal arises').
+// The checker: whether a certificate's parts cover all bins in order and are true of the runs (docs/SPECIFICATION.md, 'The refusals').
 ghost use mathlib.Core.Path.{_≡_};
 ghost use Prim.Native.Nat.{suc, _≤_};
 ghost use lib.ListN.{length};

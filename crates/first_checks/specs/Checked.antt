@@ -1,4 +1,4 @@
--- What the code's answer means: passed, or document 01's number and place. Definitions only.
+-- What the code's answer means: passed, or a number and a place of docs/SPECIFICATION.md, 'The refusals'. Definitions only.
 use Rattle.model.specs.Refusals.{Check, passed, refusal}
 use Rattle.first_checks.specs.declared.Checked.{Checked}
 use Rattle.first_checks.specs.declared.Checked.the-variants.{Passed, Refused}

@@ -1,4 +1,4 @@
-// The first checks of document 01's table, for question and checker alike. Two passes over the ends, one over the numbers.
+// The first checks (docs/SPECIFICATION.md, 'The refusals'), for question and checker alike. Two passes over the ends, one over the numbers.
 ghost use mathlib.Core.Path.{_≡_};
 ghost use mathlib.Core.Option.{none};
 ghost use lib.ListN.{length};

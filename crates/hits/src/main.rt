@@ -1,4 +1,4 @@
-// The program hits: reads a question from standard input and prints its answer (document 01, 'The program hits').
+// The program hits: reads a question from standard input and prints its answer (docs/SPECIFICATION.md, 'The program hits').
 ghost use Prim.Native.Nat.{_≤_};
 ghost use lib.ListN.{length};
 ghost use Rattle.hits_limits.specs.Limits.{mostText};

@@ -1,4 +1,4 @@
--- Document 01, 'The program hits': what it prints for an input. Definitions only.
+-- docs/SPECIFICATION.md, 'The program hits': what it prints for an input. Definitions only.
 use Prim.Native.Nat.{ℕ}
 use mathlib.Core.Bool.{Bool}
 use mathlib.Core.List.{List}

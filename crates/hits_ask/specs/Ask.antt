@@ -1,4 +1,4 @@
--- Document 01, 'The program hits': what it prints for a question. Definitions only.
+-- docs/SPECIFICATION.md, 'The program hits': what it prints for a question. Definitions only.
 use Prim.Native.Nat.{ℕ}
 use mathlib.Core.List.{List}
 use lib.ListN.{replicate}

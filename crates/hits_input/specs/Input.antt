@@ -1,4 +1,4 @@
--- Document 01, 'The program hits': the input text as a question, or refusal 12 with the number of the first line at fault. Definitions only.
+-- docs/SPECIFICATION.md, 'The program hits': the input text as a question, or refusal 12 with the number of the first line at fault. Definitions only.
 use Prim.Native.Nat.{ℕ, suc, _+_}
 use mathlib.Core.Bool.{Bool, true, false, _||_}
 use mathlib.Core.List.{List, [], _∷_, _++_}

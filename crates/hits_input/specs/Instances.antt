@@ -1,4 +1,4 @@
--- Inputs of the program hits with what they are parsed to, among them the listing of document 01. Definitions only.
+-- Inputs of the program hits with what they are parsed to, among them the listing of docs/SPECIFICATION.md, 'Instances'. Definitions only.
 use Prim.Native.Char.{code}
 use Prim.Native.Nat.{ℕ}
 use Prim.Native.String.{String, [] as noText, _∷_ as _andText_}

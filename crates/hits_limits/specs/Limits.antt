@@ -1,4 +1,4 @@
--- Document 01, 'The program hits': its limits, each under one name. Definitions only.
+-- docs/SPECIFICATION.md, 'The program hits': its limits, each under one name. Definitions only.
 use Prim.Native.Nat.{ℕ, _+_, _*_}
 
 -- It accepts at most 65,536 bytes; run 65 and number 1,025 of all the runs together are refused.

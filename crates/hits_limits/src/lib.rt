@@ -1,4 +1,4 @@
-// The limits of the program hits (document 01, 'The program hits'): the number of bytes that it accepts, and buffers of zeros with the room that it
+// The limits of the program hits (docs/SPECIFICATION.md, 'The program hits'): the number of bytes that it accepts, and buffers of zeros with the room that it
 // has. What stands in a buffer before is of no account, so the contracts tell only how long it is.
 ghost use mathlib.Core.Path.{_≡_};
 ghost use lib.ListN.{length};

@@ -6,7 +6,7 @@ use Rattle.hits_input.specs.Input.{Outcome, question, refused, Result}
 use Rattle.hits_parse.specs.declared.Parsed.{Parsed}
 use Rattle.hits_parse.specs.declared.Parsed.the-variants.{Question, Faulty}
 
--- document 01's number and values of each case
+-- the number and the values of each case (docs/SPECIFICATION.md, 'The program hits')
 abbrev pub outcomeIs : Parsed → Outcome
 outcomeIs (Question t allowance runs numbers) = question t allowance runs numbers
 outcomeIs (Faulty line) = refused 12 line

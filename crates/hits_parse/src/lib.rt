@@ -1,4 +1,4 @@
-// The input text of the program hits (document 01, 'The program hits'): a question, or the first line at fault. A pass over the input looks for
+// The input text of the program hits (docs/SPECIFICATION.md, 'The program hits'): a question, or the first line at fault. A pass over the input looks for
 // a fault; only where there is none does a second pass store the runs.
 ghost use Prim.Native.Nat.{_≤_};
 ghost use lib.ListN.{length};

@@ -1,4 +1,4 @@
--- Document 01, 'The program hits': the lines of a certificate's parts. Definitions only.
+-- docs/SPECIFICATION.md, 'The program hits': the lines of a certificate's parts. Definitions only.
 use Prim.Native.Nat.{ℕ, zero, suc}
 use mathlib.Core.List.{List, [], _∷_, _++_}
 use lib.ListN.{length}

@@ -1,4 +1,4 @@
-// The lines that the program hits prints for the parts of a certificate (document 01, 'The program hits').
+// The lines that the program hits prints for the parts of a certificate (docs/SPECIFICATION.md, 'The program hits').
 ghost use Prim.Native.Nat.{_+_, _≤_};
 ghost use lib.ListN.{length};
 ghost use Rattle.field_read.specs.Reading.{partOf};

@@ -1,4 +1,5 @@
--- Document 01's listing, the same question with too small an allowance, and its first three lines with a read that fails after them, by computation.
+-- The listing of docs/SPECIFICATION.md, 'Instances', the same question with too small an allowance, and its first three lines with a read that
+-- fails after them, by computation.
 -- Assumes nothing.
 use mathlib.Core.Bool.{true, false}
 use mathlib.Core.Path.{_≡_, refl}

@@ -1,4 +1,4 @@
--- Document 01, 'The program hits': the listing's input with what it prints, and a refused question. Definitions only.
+-- docs/SPECIFICATION.md, 'The program hits': the listing's input with what it prints, and a refused question. Definitions only.
 use Prim.Native.Nat.{ℕ}
 use mathlib.Core.List.{List}
 use Rattle.hits_input.specs.Instances.{bytes}

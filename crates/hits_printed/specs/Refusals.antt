@@ -1,4 +1,4 @@
--- Document 01, 'The program hits': which refusals it can print. Definitions only.
+-- docs/SPECIFICATION.md, 'The program hits': which refusals it can print. Definitions only.
 use Prim.Native.Nat.{ℕ}
 use mathlib.Core.Logic.{_⊎_}
 use mathlib.Core.Path.{_≡_}

@@ -1,4 +1,4 @@
--- Document 01, 'The program hits': the text that it prints for the outcome of a question and its certificate. Definitions only.
+-- docs/SPECIFICATION.md, 'The program hits': the text that it prints for the outcome of a question and its certificate. Definitions only.
 use Prim.Native.Nat.{ℕ}
 use mathlib.Core.Bool.{true, false}
 use mathlib.Core.List.{List, [], _∷_, _++_}

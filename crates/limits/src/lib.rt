@@ -1,4 +1,4 @@
-// The limits of document 01, each under one name.
+// The limits (docs/SPECIFICATION.md, 'The limits'), each under one name.
 
 // A question has at most so many runs.
 pub const MOST_RUNS: usize = 64;

@@ -1,4 +1,4 @@
--- The starred instances of document 01, and the one that tells how the halving place is rounded, by computation. Assumes nothing.
+-- The starred instances of docs/SPECIFICATION.md, 'Instances', by computation. Assumes nothing.
 use mathlib.Core.List.{_∷_}
 use mathlib.Core.Path.{refl}
 use Rattle.model.specs.Certificate.{firstOf, lastOf, answersOf, bytesOf, field, encodePart, encode}

@@ -1,4 +1,4 @@
--- Document 01, 'Bins of one run between two numbers'. Definitions only.
+-- docs/SPECIFICATION.md, 'Bins between two numbers'. Definitions only.
 use Prim.Native.Nat.{ℕ}
 use mathlib.Core.Bool.{Bool, true, false, _&&_}
 use mathlib.Core.List.{List, [], _∷_}

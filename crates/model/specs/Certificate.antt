@@ -1,4 +1,4 @@
--- Document 01, 'The certificate': parts, their bytes, the reading of a field, and when a certificate is true. Definitions only.
+-- docs/SPECIFICATION.md, 'The certificate': parts, their bytes, the reading of a field, and when a certificate is true. Definitions only.
 use Prim.Native.Nat.{ℕ, zero, suc, _+_, _-_, _*_, _/_, _%_, _≤_, _<_}
 use mathlib.Core.Bool.{Bool, true, false, _&&_}
 use mathlib.Core.List.{List, [], _∷_, _++_, List·Memᴰ}

@@ -1,4 +1,4 @@
--- Document 01, 'What demand 3 compares': the whole walk, its certificate, each run's probes, binary digits, the bound. Definitions only.
+-- docs/SPECIFICATION.md, 'The promises': the whole walk, its certificate, each run's probes, binary digits, the bound. Definitions only.
 use Prim.Native.Nat.{ℕ, zero, suc, _+_, _*_, _^_}
 use mathlib.Core.Bool.{Bool, true, false}
 use mathlib.Core.List.{List, [], _∷_}

@@ -46,7 +46,7 @@ abbrev pub TrueBytes : List Run → ℕ → List ℕ → Type 0
 TrueBytes rs t bytes = (ps : List Part) × TrueCertificate rs t ps × (bytes ≡ encode ps)
 
 -- Demand 2 for a question. When a walk reaches its end, the answers are all the bins held by at least t lists, and no others, rising, each once. The
--- certificate beside them is true by the paper's rule. A walk that stops early has written the first parts of that same certificate and
+-- certificate beside them is true. A walk that stops early has written the first parts of that same certificate and
 -- their answers.
 pub record Certified (rs : List Run) (t : ℕ) (o : Outcome) (answers certificate : List ℕ) : Type 0 where
   pub exact : refusedBy o ≡ 0 → Exact rs t (take (answersIn o) answers)

@@ -1,4 +1,4 @@
--- Document 01, 'Instances with their answers': the starred ones, and one that tells rounding the halving place down from rounding it up.
+-- docs/SPECIFICATION.md, 'Instances': the starred ones, the last of which tells rounding the halving place down from rounding it up.
 -- Definitions only.
 use Prim.Native.Nat.{ℕ}
 use mathlib.Core.List.{List, [], _∷_, map}
@@ -39,7 +39,7 @@ listing allowance o ps =
       parts = ps;
     }
 
--- the seven runs of figure 1 in source document 001, with a threshold
+-- the seven runs of figure 1 of Barbay and Kenyon, 'Alternation and Redundancy Analysis of the Intersection Problem', with a threshold
 unfoldable pub figure1 : ℕ → Outcome → List Part → Instance
 figure1 t o ps =
     record {
@@ -75,7 +75,7 @@ starred =
     (gap 0 4 105 ∷ gap 5 8 31 ∷ answer 9 15 ∷ gap 10 10 15 ∷ gap 11 16 113 ∷ gap 17 4294967295 47 ∷ []) ∷
     []
 
--- Not in document 01: between places 4 and 7 the halving place is 5. Rounded up it would be 6, and 5 probes in all.
+-- Between places 4 and 7 the halving place is 5. Rounded up it would be 6, and 5 probes in all.
 unfoldable pub roundedDown : Instance
 roundedDown =
     instance (10 ∷ 20 ∷ 30 ∷ 40 ∷ 50 ∷ 60 ∷ 70 ∷ 55 ∷ []) (7 ∷ 8 ∷ []) 2 (accepted 0 3 57 4)

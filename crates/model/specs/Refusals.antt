@@ -1,4 +1,4 @@
--- Document 01, 'Where each refusal arises': the first checks, the walk with an allowance and buffers, and the outcomes of question and checker for
+-- docs/SPECIFICATION.md, 'The refusals': the first checks, the walk with an allowance and buffers, and the outcomes of question and checker for
 -- any input. Definitions only.
 use Prim.Native.Nat.{ℕ, zero, suc, _+_, _-_, _*_, _/_, _^_}
 use mathlib.Core.Bool.{Bool, true, false, _&&_, _||_, not}

@@ -16,7 +16,7 @@ unfoldable pub from : ℕ → List ℕ → List ℕ
 from v [] = []
 from v (x ∷ s) = elim (ltb x v) [ true ↦ from v s | false ↦ x ∷ s ]
 
--- how many numbers stand before those; document 003's insertion rank less one
+-- how many numbers stand before those; Barbay and Kenyon's insertion rank less one
 unfoldable pub rank : ℕ → List ℕ → ℕ
 rank v [] = 0
 rank v (x ∷ s) = elim (ltb x v) [ true ↦ suc (rank v s) | false ↦ 0 ]

@@ -1,4 +1,4 @@
--- Document 01, 'The lists as lent': numbers and ends as runs, and masks over them. Definitions only.
+-- docs/SPECIFICATION.md, 'The lists': numbers and ends as runs, and masks over them. Definitions only.
 use Prim.Native.Nat.{ℕ, zero, suc, _+_, _-_, _*_, _/_, _%_, _^_}
 use mathlib.Core.Bool.{Bool, true, false}
 use mathlib.Core.List.{List, [], _∷_}

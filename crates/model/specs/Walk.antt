@@ -1,4 +1,4 @@
--- Document 01, 'The walk': heads, the search, a round and the walk, as the list of what is done. Definitions only.
+-- docs/SPECIFICATION.md, 'The walk': heads, the search, a round and the walk, as the list of what is done. Definitions only.
 use Prim.Native.Nat.{ℕ, zero, suc, _+_, _-_, _*_, _/_, min}
 use mathlib.Core.Bool.{Bool, true, false}
 use mathlib.Core.List.{List, [], _∷_, _++_, map}

@@ -1,4 +1,4 @@
--- What the code's outcome means in document 01's numbers, and what a call returns and leaves in its buffers. Definitions only.
+-- What the code's outcome means in the numbers of docs/SPECIFICATION.md, 'The refusals', and what a call returns and leaves in its buffers. Definitions only.
 use mathlib.Core.List.{List}
 use mathlib.Core.Path.{_≡_}
 use Prim.Native.Nat.{ℕ}

@@ -1,4 +1,4 @@
-// The question: which bins at least t of the runs hold, with a certificate (document 01, 'The walk').
+// The question: which bins at least t of the runs hold, with a certificate (docs/SPECIFICATION.md, 'The walk').
 ghost use mathlib.Core.Path.{_≡_};
 ghost use Prim.Native.Nat.{_≤_};
 ghost use Rattle.walk_write.specs.Writes.{countsOf};

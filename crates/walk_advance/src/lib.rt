@@ -1,4 +1,4 @@
-// A round from the t-th smallest head v on (document 01, 'The walk'): the gap before v, the searches for v, and then the answer.
+// A round from the t-th smallest head v on (docs/SPECIFICATION.md, 'The walk'): the gap before v, the searches for v, and then the answer.
 ghost use Rattle.model.specs.Walk.{round, walk};
 ghost use Rattle.walk_state.specs.State.{runsAt};
 ghost use Rattle.walk_write.specs.Writes.{Fitted};

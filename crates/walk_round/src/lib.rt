@@ -1,4 +1,4 @@
-// One round of the walk (document 01, 'The walk'): the last gap where too few runs have a head, and otherwise a round from the t-th smallest head on.
+// One round of the walk (docs/SPECIFICATION.md, 'The walk'): the last gap where too few runs have a head, and otherwise a round from the t-th smallest head on.
 ghost use Rattle.model.specs.Walk.{round, walk};
 ghost use Rattle.walk_state.specs.State.{runsAt};
 ghost use Rattle.walk_write.specs.Writes.{Fitted};

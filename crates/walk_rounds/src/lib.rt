@@ -1,4 +1,4 @@
-// Rounds of the walk until one ends it (document 01, 'The walk').
+// Rounds of the walk until one ends it (docs/SPECIFICATION.md, 'The walk').
 ghost use Rattle.walk_state.specs.State.{runsAt};
 ghost use Rattle.walk_write.specs.Writes.{Fitted};
 ghost use Rattle.walk_settle.specs.Turns.{Stands};

@@ -1,4 +1,4 @@
-// The search of document 01 in the numbers of one run from its position on, with a limited number of probes. At most 2 × digits probes.
+// The search (docs/SPECIFICATION.md, 'The search') in the numbers of one run from its position on, with a limited number of probes. At most 2 × digits probes.
 ghost use mathlib.Core.Path.{_≡_};
 ghost use Prim.Native.Nat.{_≤_};
 ghost use lib.ListN.{length};

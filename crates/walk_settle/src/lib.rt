@@ -1,4 +1,4 @@
-// The end of a round (document 01, 'The walk'): the floor is written as an answer where runs enough hold it, and is passed.
+// The end of a round (docs/SPECIFICATION.md, 'The walk'): the floor is written as an answer where runs enough hold it, and is passed.
 ghost use Rattle.model.specs.Walk.{settle, walk};
 ghost use Rattle.walk_state.specs.State.{runsAt};
 ghost use Rattle.walk_write.specs.Writes.{Fitted};

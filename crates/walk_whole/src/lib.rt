@@ -1,4 +1,4 @@
-// The walk from its beginning to its end (document 01, 'The walk'): each run at its first number, then the rounds.
+// The walk from its beginning to its end (docs/SPECIFICATION.md, 'The walk'): each run at its first number, then the rounds.
 ghost use Rattle.model.specs.Refusals.{query};
 ghost use Rattle.walk_whole.specs.Whole.{Begins, ComesTo};
 use walk_rounds::End;

@@ -1,4 +1,4 @@
-//! The instances of document 01 with their answers, on both sides.
+//! The instances of docs/SPECIFICATION.md with their answers, on both sides.
 
 use comparison::question::{result_of, Comparer, Limits, Question};
 use reference::encode;

@@ -6,7 +6,7 @@ pub const MAX_RUNS: usize = 64;
 /// The largest count of numbers in all runs together.
 pub const MAX_NUMBERS: usize = 1_048_576;
 
-/// A refusal: its number in the table of document 01 and its place.
+/// A refusal: its number in docs/SPECIFICATION.md, 'The refusals', and its place.
 #[derive(Clone, Copy, Debug, PartialEq, Eq)]
 pub struct Refusal {
     /// The number of the refusal.

@@ -1,7 +1,7 @@
-//! Reference implementation of document 01, "Coverage quorum: lists, walk and
-//! certificate": which numbers do at least `t` of `k` rising lists hold?
+//! Reference implementation of docs/SPECIFICATION.md: which numbers do at least
+//! `t` of `k` rising lists hold?
 //!
-//! It is written from the document alone, to be compared with other
+//! It is written from the specification alone, to be compared with other
 //! implementations. Every function outside [`testing`] is total: it never
 //! panics, whatever the input.
 //!

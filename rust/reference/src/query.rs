@@ -1,4 +1,4 @@
-//! The query, which document 01 calls a question.
+//! The query, which the specification calls a question.
 
 use crate::certificate::{answer_field, gap_field};
 use crate::first_checks::{first_checks, split_runs, Refusal};

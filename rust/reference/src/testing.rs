@@ -1,5 +1,5 @@
 //! What the tests of this crate and the comparison share: short forms, rows
-//! from runs, all small inputs, random numbers, and document 01's instances as
+//! from runs, all small inputs, random numbers, and the specification's instances as
 //! a list of runs, threshold, allowance, expected parts and outcome.
 
 use crate::{Outcome, Part};
@@ -7,7 +7,7 @@ use crate::{Outcome, Part};
 /// The largest bin.
 pub const M: u32 = u32::MAX;
 
-/// The runs of document 01's first instance.
+/// The runs of the specification's first instance.
 pub const THREE_RUNS: [&[u32]; 3] = [&[2, 5, 9], &[5, 7, 9, 12], &[1, 9]];
 
 /// The parts of [`THREE_RUNS`] with threshold 2.
@@ -178,7 +178,7 @@ impl Instance {
     }
 }
 
-/// The instances of document 01 and the edges near them.
+/// The instances of docs/SPECIFICATION.md and the edges near them.
 pub fn instances() -> Vec<Instance> {
     let tens: Vec<u32> = (1..=10).map(|i| 10 * i).collect();
     let none: [&[u32]; 0] = [];

@@ -1,4 +1,5 @@
-//! The walk of document 01, apart from where its parts and probes go.
+//! The walk (docs/SPECIFICATION.md, 'The walk'), apart from where its parts and
+//! probes go.
 
 use crate::first_checks::MAX_RUNS;
 use crate::heads::Heads;

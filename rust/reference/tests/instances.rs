@@ -1,4 +1,4 @@
-//! The instances of document 01 with their answers.
+//! The instances of docs/SPECIFICATION.md with their answers.
 
 mod common;
 

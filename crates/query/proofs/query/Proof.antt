@@ -1,4 +1,4 @@
--- `query` returns document 01's outcome and buffers for any input, and demands 2 and 3 hold of them. Assumes nothing.
+-- `query` returns the specified outcome and buffers for any input, and demands 2 and 3 hold of them. Assumes nothing.
 use mathlib.Core.Path.{sym, ap, _∙_, subst}
 use native.Mathlib.Omega.{arith}
 use Rattle.first_checks.specs.Checked.{checkOf}
