@@ -1,7 +1,7 @@
 -- Probes. One search makes fewer than 2 × digits probes, a round that searches writes a gap, and a round searches a run once at most; so in a run of n
--- numbers a walk makes at most 2 × parts × digits n probes. Every probe is some run's, so their number is the sum over the runs.
--- Assumes nothing.
-use Prim.Native.Nat.{ℕ, zero, suc, _+_, _-_, _*_, _≤_, _<_}
+-- numbers a walk makes at most 2 × parts × digits n probes. A search moves its run on by at least one number, so it makes at most 2 × n × digits n as
+-- well. Every probe is some run's, so their number is the sum over the runs. Assumes nothing.
+use Prim.Native.Nat.{ℕ, zero, suc, _+_, _*_, _≤_, _<_}
 use borrow.Author.Tests.{lt-ltb, le-ltb, ltb-true, eq-eqb, ne-eqb}
 use lib.Dec.{ltb, eqb}
 use lib.ListN.{length, replicate}
@@ -9,21 +9,22 @@ use mathlib.Core.Bool.{Bool, true, false}
 use mathlib.Core.List.{List, [], _∷_, _++_, map, List·Memᴰ, List·Memᴰ·head, List·Memᴰ·tail, List·Memᴰ·not-nil, List·Memᴰ·cases-cons, List·Memᴰ·append-cases}
 use mathlib.Core.Logic.{⊎-elim, _≢_}
 use mathlib.Core.Path.{_≡_, refl, sym, ap, _∙_}
-use native.Mathlib.Nat.{mul-le-mul-right, mul-le-mul-left}
+use native.Mathlib.Nat.{mul-le-mul-left}
 use native.Mathlib.Omega.{arith}
+use Rattle.model.specs.Certificate.{Part}
 use Rattle.model.specs.Compared.{partsOf, cost, probeIn, probesIn, probe, probesOf, digits}
 use Rattle.model.specs.Runs.{Run, pastBin, total, one}
 use Rattle.model.specs.Walk.{Event, sought, doubled, halved, wrote, headOf, head, seek, searchIn, searches}
 use Rattle.model.proofs.Count.{total-map, total-zero, total-add}
 use Rattle.model.proofs.Digits.{digits-mono}
 use Rattle.model.proofs.Events.{cost-append, cost-replicate, cost-searches, parts-wrote, parts-round}
-use Rattle.model.specs.Rows.{Rise}
-use Rattle.model.proofs.From.{rise-from, from-length, head-nil, head-cons}
+use Rattle.model.specs.Rows.{Rise, from}
+use Rattle.model.proofs.From.{rise-from, from-length, from-fewer, head-nil, head-cons}
 use Rattle.model.proofs.Masks.{Labelled, label-first, label-rest, label-least}
 use Rattle.model.proofs.Searching.{sought-right}
-use Rattle.model.proofs.Tests.{lt-or-le}
+use Rattle.model.proofs.Tests.{lt-or-le, one-most}
 use Rattle.model.proofs.Truth.{Fit, labelled-at}
-use Rattle.model.proofs.Walking.{Rising, rising-tail, fromRun, at, gapAt, answerAt, Walked, over, stop, pass, hit, hit-here}
+use Rattle.model.proofs.Walking.{Rising, rising-tail, fromRun, at, Walked, over, stop, pass, hit, hit-here}
 
 -- a search that is made, and one that is not
 pub search-made : (v : ℕ) (r : Run) → head r < v
@@ -54,8 +55,9 @@ two-digits v (x ∷ s) g b h =
     let k = sought-right v x s g (omega arith) in
     omega (arith, k .doublings, k .halvings)
 
--- the probes of a search in its own run, and in any other
-own-search : (v : ℕ) (r : Run) {a : ℕ} → Rise a (r .bins) → v ≤ pastBin → probesIn (r .label) (searchIn v r) ≤ 2 * digits (length (r .bins))
+-- The probes of a search in its own run, none where the head is not below v; and those in any other run.
+own-search : (v : ℕ) (r : Run) {a : ℕ} → Rise a (r .bins) → v ≤ pastBin
+    → probesIn (r .label) (searchIn v r) ≤ one (ltb (headOf (r .bins)) v) * (2 * digits (length (r .bins)))
 unfolding probesIn probeIn cost head one
 own-search v r g b =
     ⊎-elim
@@ -63,7 +65,7 @@ own-search v r g b =
     let e : one (eqb (r .label) (r .label)) ≡ 1 = ap one (eq-eqb (r .label) (r .label) refl) in
     let c = search-cost (probeIn (r .label)) v 1 r refl e e h in
     let k = two-digits v (r .bins) g b h in
-    omega arith)
+    rw (lt-ltb (headOf (r .bins)) v h) (omega arith))
     (λ (h : v ≤ head r). rw (search-none v r h) (omega arith))
     (lt-or-le (head r) v)
 
@@ -79,15 +81,16 @@ other-search v i r n =
     (lt-or-le (head r) v)
 
 -- the probes in a run in one round
-from-search : (v f : ℕ) (r : Run) → Rise 0 (r .bins) → v ≤ pastBin → probesIn (r .label) (searchIn v (fromRun f r)) ≤ 2 * digits (length (r .bins))
+from-search : (v f : ℕ) (r : Run) → Rise 0 (r .bins) → v ≤ pastBin
+    → probesIn (r .label) (searchIn v (fromRun f r)) ≤ one (ltb (headOf (from f (r .bins))) v) * (2 * digits (length (r .bins)))
 unfolding fromRun
 from-search v f r g b =
     let k = own-search v (fromRun f r) (rise-from f (r .bins) g) b in
-    let d = digits-mono (from-length f (r .bins)) in
+    let d = mul-le-mul-left (one (ltb (headOf (from f (r .bins))) v)) (digits-mono (from-length f (r .bins))) in
     omega arith
 
 round-total : (v f : ℕ) {a : ℕ} (rs : List Run) → Labelled a rs → Rising rs → v ≤ pastBin → (r : Run) → List·Memᴰ r rs
-    → total (λ q. probesIn (r .label) (searchIn v (fromRun f q))) rs ≤ 2 * digits (length (r .bins))
+    → total (λ q. probesIn (r .label) (searchIn v (fromRun f q))) rs ≤ one (ltb (headOf (from f (r .bins))) v) * (2 * digits (length (r .bins)))
 unfolding total fromRun
 round-total v f [] l g b r m = absurd (List·Memᴰ·not-nil m)
 round-total v f {a} (s ∷ rs) l g b r m =
@@ -108,7 +111,7 @@ round-total v f {a} (s ∷ rs) l g b r m =
     (List·Memᴰ·cases-cons m)
 
 round-probes : (v f : ℕ) {rs : List Run} {t : ℕ} → Fit rs t → v ≤ pastBin → (r : Run) → List·Memᴰ r rs
-    → probesIn (r .label) (searches v (at f rs)) ≤ 2 * digits (length (r .bins))
+    → probesIn (r .label) (searches v (at f rs)) ≤ one (ltb (headOf (from f (r .bins))) v) * (2 * digits (length (r .bins)))
 unfolding probesIn at
 round-probes v f {rs} g b r m =
     let c = cost-searches (probeIn (r .label)) v (at f rs) in
@@ -116,27 +119,44 @@ round-probes v f {rs} g b r m =
     let k = round-total v f rs (g .labels) (g .rising) b r m in
     omega arith
 
--- In each run a walk makes at most 2 × digits probes for each part that it writes.
-pub walk-probes : {rs : List Run} {t f : ℕ} {es : List Event} → Fit rs t → Walked rs t f es → (r : Run) → List·Memᴰ r rs
-    → probesIn (r .label) es ≤ length (partsOf es) * (2 * digits (length (r .bins)))
+-- In a run a walk makes at most 2 × digits probes for each search, at most one search for each part that it writes, and at most one for each number
+-- that the run has from the floor on.
+pub record Probed (r : Run) (f : ℕ) (es : List Event) : Type 0 where
+  pub made : ℕ
+  pub probes : probesIn (r .label) es ≤ made * (2 * digits (length (r .bins)))
+  pub parts : made ≤ length (partsOf es)
+  pub numbers : made ≤ length (from f (r .bins))
+
+-- an answer, and a part with the searches after it, before the rest of a walk
+probed-answer : {r : Run} {v : ℕ} {es : List Event} (p : Part) → v < pastBin → Probed r (suc v) es → Probed r v (wrote p ∷ es)
 unfolding probesIn cost probeIn
-walk-probes g (over e) r m = omega arith
-walk-probes {rs} {f = f} g (stop l h) r m = omega arith
-walk-probes {rs} {f = f} g (pass {v = v} {es = es} l a q w) r m =
-    let i = walk-probes g w r m in
-    let b = a .bin in
-    let k = round-probes v f g (omega arith) r m in
+probed-answer {r} {v} {es} p b i =
+    let n = from-fewer v (suc v) (r .bins) (omega arith) (omega arith) in
+    record { made = i .made; probes = omega arith; parts = rw (parts-wrote p es) (omega arith); numbers = omega arith }
+
+probed-round : {rs : List Run} {t f v : ℕ} {es : List Event} (p : Part) → Fit rs t → f ≤ v → v ≤ pastBin → (r : Run) → List·Memᴰ r rs → Probed r v es
+    → Probed r f (wrote p ∷ (searches v (at f rs) ++ es))
+unfolding probesIn cost probeIn
+probed-round {rs} {f = f} {v = v} {es = es} p g l b r m i =
+    let k = round-probes v f g b r m in
     let c = cost-append (probeIn (r .label)) (searches v (at f rs)) es in
-    rw (parts-round (gapAt rs f v (v - 1)) v (at f rs) es) (omega arith)
-walk-probes {rs} {f = f} g (hit {v = v} {es = es} l a q w) r m =
-    let i = walk-probes g w r m in
-    let b = a .bin in
-    let k = round-probes v f g (omega arith) r m in
-    let c = cost-append (probeIn (r .label)) (searches v (at f rs)) (wrote (answerAt rs v) ∷ es) in
-    rw (parts-round (gapAt rs f v (v - 1)) v (at f rs) (wrote (answerAt rs v) ∷ es), parts-wrote (answerAt rs v) es) (omega arith)
-walk-probes {rs} {f = f} g (hit-here {es = es} a q w) r m =
-    let i = walk-probes g w r m in
-    rw (parts-wrote (answerAt rs f) es) (omega arith)
+    let n = from-fewer f v (r .bins) l b in
+    let o = one-most (ltb (headOf (from f (r .bins))) v) in
+    record {
+      made = one (ltb (headOf (from f (r .bins))) v) + i .made;
+      probes = omega arith;
+      parts = rw (parts-round p v (at f rs) es) (omega arith);
+      numbers = omega arith;
+    }
+
+pub walk-probes : {rs : List Run} {t f : ℕ} {es : List Event} → Fit rs t → Walked rs t f es → (r : Run) → List·Memᴰ r rs → Probed r f es
+unfolding probesIn cost probeIn
+walk-probes g (over e) r m = record { made = 0; probes = omega arith; parts = omega arith; numbers = omega arith }
+walk-probes g (stop l h) r m = record { made = 0; probes = omega arith; parts = omega arith; numbers = omega arith }
+walk-probes g (pass l a q w) r m = let b = a .bin in probed-round _ g (omega arith) (omega arith) r m (walk-probes g w r m)
+walk-probes g (hit l a q w) r m =
+    let b = a .bin in probed-round _ g (omega arith) (omega arith) r m (probed-answer _ b (walk-probes g w r m))
+walk-probes g (hit-here a q w) r m = probed-answer _ (a .bin) (walk-probes g w r m)
 
 -- ---- the sum over the runs
 
@@ -206,7 +226,7 @@ owned-searches {rs} v f g e m =
     let s = searches-mem v (at f rs) e m in
     sym (labels-at f e rs) ∙ owned-search (at f rs) (labelled-at f (g .labels)) v (s .0) (s .1) e (s .2)
 
-owned-part : (rs : List Run) (e : Event) (p : Rattle.model.specs.Certificate.Part) → e ≡ wrote p → total (λ r. probeIn (r .label) e) rs ≡ probe e
+owned-part : (rs : List Run) (e : Event) (p : Part) → e ≡ wrote p → total (λ r. probeIn (r .label) e) rs ≡ probe e
 unfolding probeIn probe
 owned-part rs e p i = owned-event rs e (wrote p) i (total-zero _ rs (λ r k. refl))
 

@@ -1,6 +1,6 @@
 -- Demands 2 and 3 for the question: every clause, for any lists and threshold that pass the first checks, any allowance and any buffers.
 -- Assumes nothing.
-use Prim.Native.Nat.{ℕ, zero, suc, _+_, _*_, _≤_, _<_}
+use Prim.Native.Nat.{ℕ, zero, suc, _+_, _*_, _≤_, _<_, min}
 use lib.ListN.{length, take}
 use lib.Seq.{take-append-seam, take-length}
 use mathlib.Core.List.{List, [], _∷_, _++_, List·Memᴰ}
@@ -11,7 +11,7 @@ use native.Mathlib.Omega.{arith}
 use Rattle.model.specs.Certificate.{Part, answersOf, encode, TrueCertificate}
 use Rattle.model.specs.Compared.{wholeWalk, partsOf, wholeCertificate, probeIn, probesIn, probesOf, digits, boundOf, boundIn, bound}
 use Rattle.model.specs.Demands.{Fits, answersIn, partsIn, bytesIn, probesMade, refusedBy, Exact, Certified, Demand2, Bounded, Demand3}
-use Rattle.model.specs.Refusals.{passed, firstChecks, Ended, cutWalk, over, outcomeOf, query}
+use Rattle.model.specs.Refusals.{passed, firstChecks, Room, Ended, cut, cutWalk, over, outcomeOf, query}
 use Rattle.model.specs.Runs.{Run, firstBin, pastBin, runs, total}
 use Rattle.model.specs.Walk.{Event, walk}
 use Rattle.model.proofs.Bounds.{walk-probes, owned, sum-probes}
@@ -20,6 +20,7 @@ use Rattle.model.proofs.Cutting.{cut-whole, cut-parts, cut-few, cut-cos
 use Rattle.model.proofs.Exact.{exact}
 use Rattle.model.proofs.Fewest.{fewest}
 use Rattle.model.proofs.FirstChecks.{fit}
+use Rattle.model.proofs.From.{from-length}
 use Rattle.model.proofs.Truth.{Fit, walk-covers, walk-true}
 use Rattle.model.proofs.Walking.{Walked, walked, at-start}
 
@@ -38,6 +39,17 @@ whole-true g = record { covering = walk-covers (whole-walked g); each = walk-tru
 pub whole-fewest : {rs : List Run} {t : ℕ} {ps : List Part} → Fit rs t → TrueCertificate rs t ps → length (wholeCertificate t rs) ≤ length ps
 unfolding wholeCertificate
 whole-fewest {ps = ps} g c = fewest g (whole-walked g) firstBin ps (omega arith) (c .covering) (c .each)
+
+-- In a run the whole walk makes at most 2 × d × digits probes, where it writes at most d parts or the run has at most d numbers.
+pub whole-bound : {rs : List Run} {t : ℕ} → Fit rs t → (d : ℕ) (r : Run) → List·Memᴰ r rs → min (length (wholeCertificate t rs)) (length (r .bins)) ≤ d
+    → probesIn (r .label) (wholeWalk t rs) ≤ boundIn d r
+unfolding boundIn boundOf wholeCertificate
+whole-bound g d r m h =
+    let k = walk-probes g (whole-walked g) r m in
+    let n = from-length firstBin (r .bins) in
+    let l : k .made ≤ d = omega arith in
+    let i = mul-le-mul-right (2 * digits (length (r .bins))) l in
+    omega arith
 
 -- ---- what an ended walk returns
 
@@ -65,6 +77,16 @@ outcome-refused : (es : List Event) (n : ℕ) → refusedBy (outcomeOf (record {
 unfolding outcomeOf refusedBy
 outcome-refused es zero = refl
 outcome-refused es (suc n) = refl
+
+-- Given a bound of each run's probes, an allowance no smaller than their sum is never spent.
+pub never-spent : {rs : List Run} {t : ℕ} → Fit rs t → (b : Run → ℕ) → ((r : Run) → List·Memᴰ r rs → probesIn (r .label) (wholeWalk t rs) ≤ b r)
+    → (allowance answers bytes : ℕ) → total b rs ≤ allowance → refusedBy (outcomeOf (cutWalk t rs allowance answers bytes)) ≢ 7
+unfolding cutWalk
+never-spent {rs} {t} g b h allowance answers bytes l e =
+    let s = sum-probes rs (wholeWalk t rs) (owned g (whole-walked g)) in
+    let k = total-le (λ r. probesIn (r .label) (wholeWalk t rs)) b rs h in
+    let room : Room = record { probes = allowance; answers = answers; bytes = bytes } in
+    cut-enough room (wholeWalk t rs) (omega arith) (sym (outcome-refused _ (cut room (wholeWalk t rs) .refused)) ∙ e)
 
 -- the walk of a question, and what its buffers hold at the end
 module _ (rs : List Run) (t allowance : ℕ) (answers certificate : List ℕ) where
@@ -98,14 +120,6 @@ module _ (rs : List Run) (t allowance : ℕ) (answers certificate : List ℕ) wh
   all-parts : refusedBy (outcomeOf ended) ≡ 0 → take (partsIn (outcomeOf ended)) (wholeCertificate t rs) ≡ wholeCertificate t rs
   all-parts e = ap (λ n. take n (wholeCertificate t rs)) (whole-at-end e) ∙ take-length (wholeCertificate t rs)
 
-  -- d × 2 × digits of a run, whatever the walk did of the whole
-  each-bound : Fit rs t → (d : ℕ) → length (wholeCertificate t rs) ≤ d → (r : Run) → List·Memᴰ r rs → probesIn (r .label) (wholeWalk t rs) ≤ boundIn d r
-  unfolding boundIn boundOf wholeCertificate
-  each-bound g d h r m =
-      let k = walk-probes g (whole-walked g) r m in
-      let i = mul-le-mul-right (2 * digits (length (r .bins))) h in
-      omega arith
-
   cut-bound : (r : Run) → probesIn (r .label) (ended .events) ≤ probesIn (r .label) (wholeWalk t rs)
   unfolding ended cutWalk probesIn
   cut-bound r = cut-cost (probeIn (r .label)) _ (wholeWalk t rs)
@@ -116,14 +130,6 @@ module _ (rs : List Run) (t allowance : ℕ) (answers certificate : List ℕ) wh
       let o = owned g (whole-walked g) in
       outcome-probes (ended .events) (ended .refused)
       ∙ sym (sum-probes rs (ended .events) (record { each = λ e m. o .each e (cut-mem _ (wholeWalk t rs) e m) }))
-
-  never-spent : Fit rs t → (d : ℕ) → length (wholeCertificate t rs) ≤ d → bound d rs ≤ allowance → refusedBy (outcomeOf ended) ≢ 7
-  unfolding ended cutWalk bound
-  never-spent g d h l e =
-      let s = sum-probes rs (wholeWalk t rs) (owned g (whole-walked g)) in
-      let k = total-le (λ r. probesIn (r .label) (wholeWalk t rs)) (boundIn d) rs (each-bound g d h) in
-      cut-enough (record { probes = allowance; answers = length answers; bytes = length certificate }) (wholeWalk t rs) (omega arith)
-      (sym (outcome-refused (ended .events) (ended .refused)) ∙ e)
 
   few-parts : length (partsOf (ended .events)) ≤ length (wholeCertificate t rs)
   unfolding ended cutWalk wholeCertificate
@@ -144,19 +150,20 @@ module _ (rs : List Run) (t allowance : ℕ) (answers certificate : List ℕ) wh
 
   bounded-ended : Fit rs t → (ps : List Part) → TrueCertificate rs t ps
       → Bounded rs t allowance answers certificate (outcomeOf ended) (over (encode (partsOf (ended .events))) certificate) (length ps)
-  unfolding ended
+  unfolding ended bound
   bounded-ended g ps c =
       let f = whole-fewest g c in
+      let b : (r : Run) → List·Memᴰ r rs → probesIn (r .label) (wholeWalk t rs) ≤ boundIn (length ps) r = λ r m. whole-bound g (length ps) r m (omega arith) in
       let p = outcome-parts (ended .events) (ended .refused) in
       let n = few-parts in
       record {
         fewest = f;
         written = certificate-front;
         few = omega arith;
-        each-whole = each-bound g (length ps) f;
-        each = λ r m. le-trans (cut-bound r) (each-bound g (length ps) f r m);
+        each-whole = b;
+        each = λ r m. le-trans (cut-bound r) (b r m);
         sum = sum-made g;
-        enough = never-spent g (length ps) f;
+        enough = never-spent g (boundIn (length ps)) b allowance (length answers) (length certificate);
       }
 
 -- a question whose first checks pass is its ended walk

@@ -2,28 +2,28 @@
 -- the last round writes one gap of 19 bytes. So for n numbers a walk writes at most n answers and 34 × n + 19 bytes, and with that much room refusals 5
 -- and 6 never occur. Assumes nothing.
 use Prim.Native.Nat.{ℕ, zero, suc, _+_, _-_, _*_, _≤_, _<_}
-use borrow.Author.Tests.{le-ltb, lt-leb, eq-eqb, ne-eqb}
-use lib.Dec.{leb, eqb}
+use borrow.Author.Tests.{lt-ltb, le-ltb, lt-leb, eq-eqb, ne-eqb, eqb-true}
+use lib.Dec.{ltb, leb, eqb}
 use lib.ListN.{length, drop, length-take}
 use mathlib.Core.Bool.{Bool, true, false}
 use mathlib.Core.List.{List, [], _∷_}
 use mathlib.Core.Logic.{_⊎_, inl, inr, ⊎-elim, _≢_}
 use mathlib.Core.Option.{Option, none, some}
-use mathlib.Core.Path.{_≡_, refl, ap, _∙_}
+use mathlib.Core.Path.{_≡_, refl, ap}
 use native.Mathlib.Omega.{arith}
 use Rattle.model.specs.Certificate.{Part, answer, gap, answersOf, sizeOf}
 use Rattle.model.specs.Compared.{wholeWalk, partsOf}
-use Rattle.model.specs.Demands.{Fits}
+use Rattle.model.specs.Demands.{Fits, refusedBy}
 use Rattle.model.specs.Refusals.{Check, passed, refusal, _then_, refuseIf, refuseAt, fallsFrom, lastEnd, firstChecks, Room, met, after, cut, cutWalk, refused, outcomeOf, query}
 use Rattle.model.specs.Runs.{Run, firstBin, pastBin, runsFrom, runs, total, one, count}
 use Rattle.model.specs.Walk.{Event, sought, doubled, halved, wrote, headOf, head}
-use Rattle.model.proofs.Count.{total-le, total-add, count-map}
+use Rattle.model.proofs.Count.{total-le, total-add, count-map, count-le}
 use Rattle.model.proofs.Cutting.{cut-on, cut-here}
 use Rattle.model.proofs.Demands.{whole-walked}
 use Rattle.model.proofs.Events.{parts-round}
 use Rattle.model.proofs.FirstChecks.{first-passed, fit, not-fallen}
-use Rattle.model.specs.Rows.{from, equal}
-use Rattle.model.proofs.From.{from-pass, from-stop, from-nil, from-from, from-length, head-nil, head-cons}
+use Rattle.model.specs.Rows.{from, below, equal}
+use Rattle.model.proofs.From.{from-pass, from-stop, from-nil, from-from, from-length, from-fewer, head-nil, head-cons}
 use Rattle.model.proofs.Heads.{atMost}
 use Rattle.model.proofs.Tests.{lt-or-le, eq-or-ne, one-most}
 use Rattle.model.proofs.Walking.{fromRun, at, gapAt, answerAt, Walked, over, stop, pass, hit, hit-here}
@@ -52,21 +52,6 @@ head-passed v (x ∷ s) b =
     (eq-or-ne x v)))
     (lt-or-le x v)
 
--- a run with the head v leaves it behind
-head-left : (v : ℕ) (s : List ℕ) → v < pastBin → length (from (suc v) s) + one (eqb (headOf s) v) ≤ length s
-unfolding one
-head-left v [] b = let n : pastBin ≢ v = omega arith in rw (from-nil (suc v), head-nil, ne-eqb pastBin v n) (omega arith)
-head-left v (x ∷ s) b =
-    rw (head-cons x s)
-    (⊎-elim
-    (λ (e : x ≡ v).
-    let i : x < suc v = omega arith in
-    let k = from-length (suc v) s in
-    let m = one-most (eqb x v) in
-    rw (from-pass (suc v) x s i) (omega arith))
-    (λ (e : x ≢ v). rw (ne-eqb x v e) (let k = from-length (suc v) (x ∷ s) in omega arith))
-    (eq-or-ne x v))
-
 left-moved : (rs : List Run) (f v : ℕ) → f ≤ v → v < pastBin → left v rs + atMost v (at f rs) ≤ left f rs + equal v (at v rs)
 unfolding left atMost equal count at head fromRun
 left-moved rs f v l b =
@@ -79,19 +64,23 @@ left-moved rs f v l b =
     let e = count-map (λ r. eqb (headOf (r .bins)) v) (fromRun v) rs in
     omega arith
 
-left-answered : (rs : List Run) (v : ℕ) → v < pastBin → left (suc v) rs + equal v (at v rs) ≤ left v rs
-unfolding left equal count at head fromRun
-left-answered rs v b =
-    let k = total-le (λ r. length (from (suc v) (r .bins)) + one (eqb (headOf (from v (r .bins))) v)) (λ r. length (from v (r .bins))) rs
-    (λ r m. rw (← from-from v (suc v) (r .bins) (omega arith)) (head-left v (from v (r .bins)) b)) in
-    let a = total-add (λ r. length (from (suc v) (r .bins))) (λ r. one (eqb (headOf (from v (r .bins))) v)) rs in
-    let e = count-map (λ r. eqb (headOf (r .bins)) v) (fromRun v) rs in
+-- a run whose head is below v leaves a number behind on the way to v
+left-falls : (rs : List Run) (f v : ℕ) → f ≤ v → v ≤ pastBin → left v rs + below v (at f rs) ≤ left f rs
+unfolding left below count at head fromRun
+left-falls rs f v l b =
+    let k = total-le (λ r. length (from v (r .bins)) + one (ltb (headOf (from f (r .bins))) v)) (λ r. length (from f (r .bins))) rs
+    (λ r m. from-fewer f v (r .bins) l b) in
+    let a = total-add (λ r. length (from v (r .bins))) (λ r. one (ltb (headOf (from f (r .bins))) v)) rs in
+    let e = count-map (λ r. ltb (headOf (r .bins)) v) (fromRun f) rs in
     omega arith
 
-left-falls : (rs : List Run) (f v : ℕ) → f ≤ v → left v rs ≤ left f rs
-unfolding left
-left-falls rs f v l =
-    total-le _ _ rs (λ r m. rw (← from-from f v (r .bins) l) (from-length v (from f (r .bins))))
+left-answered : (rs : List Run) (v : ℕ) → v < pastBin → left (suc v) rs + equal v (at v rs) ≤ left v rs
+unfolding below equal
+left-answered rs v b =
+    let k = left-falls rs v (suc v) (omega arith) b in
+    let c = count-le (λ r. eqb (head r) v) (λ r. ltb (head r) (suc v)) (at v rs)
+    (λ r m e. let i = eqb-true (head r) v e in lt-ltb (head r) (suc v) (omega arith)) in
+    omega arith
 
 -- ---- what a walk writes
 
@@ -118,8 +107,9 @@ walk-needs {rs} {f = f} p (pass {v = v} {es = es} l a q w) =
     needs-parts _ (parts-round (gapAt rs f v (v - 1)) v (at f rs) es) (omega (arith, k .answers)) (omega (arith, k .bytes))
 walk-needs {rs} {f = f} p (hit {v = v} {es = es} l a q w) =
     let k = walk-needs p w in
-    let m = left-answered rs v (a .bin) in
-    let n = left-falls rs f v (omega arith) in
+    let b = a .bin in
+    let m = left-answered rs v b in
+    let n = left-falls rs f v (omega arith) (omega arith) in
     needs-parts _ (parts-round (gapAt rs f v (v - 1)) v (at f rs) (wrote (answerAt rs v) ∷ es)) (omega (arith, k .answers)) (omega (arith, k .bytes))
 walk-needs {rs} {f = f} p (hit-here {es = es} a q w) =
     let k = walk-needs p w in
@@ -128,7 +118,7 @@ walk-needs {rs} {f = f} p (hit-here {es = es} a q w) =
 
 -- ---- the runs have no more numbers than the row
 
-runs-numbers : (i a j : ℕ) (numbers ends : List ℕ) → fallsFrom a j ends ≡ none
+pub runs-numbers : (i a j : ℕ) (numbers ends : List ℕ) → fallsFrom a j ends ≡ none
     → a + total (λ r. length (r .bins)) (runsFrom i a numbers ends) ≤ lastEnd a ends
 unfolding runsFrom total lastEnd
 runs-numbers i a j numbers [] h = omega arith
@@ -215,6 +205,21 @@ door numbers ends t =
     (door-then _ _ (door-at 3 _ (omega arith) (omega arith))
     (door-then _ _ (door-if _ 3 _ (omega arith) (omega arith)) (door-at 4 _ (omega arith) (omega arith)))))
 
+-- A question passes the first checks or is refused by 1 to 4.
+pub passed-or-refused : (numbers ends : List ℕ) (t allowance : ℕ) (answers certificate : List ℕ)
+    → (firstChecks numbers ends t ≡ passed)
+    ⊎ ((1 ≤ refusedBy (query numbers ends t allowance answers certificate .outcome))
+    × (refusedBy (query numbers ends t allowance answers certificate .outcome) ≤ 4))
+unfolding query refusedBy
+passed-or-refused numbers ends t allowance answers certificate = go (firstChecks numbers ends t) refl
+  where
+    go : (c : Check) → firstChecks numbers ends t ≡ c
+        → (firstChecks numbers ends t ≡ passed)
+        ⊎ ((1 ≤ refusedBy (query numbers ends t allowance answers certificate .outcome))
+        × (refusedBy (query numbers ends t allowance answers certificate .outcome) ≤ 4))
+    go passed e = inl e
+    go (refusal n p) e = inr (rw (e, query) (door numbers ends t .numbers n p e))
+
 -- ---- the law
 
 module _ (numbers ends : List ℕ) (t allowance : ℕ) (answers certificate : List ℕ) (bins : Fits pastBin numbers)
@@ -242,12 +247,10 @@ module _ (numbers ends : List ℕ) (t allowance : ℕ) (answers certificate : Li
   -- Of any question that is refused the number is 1, 2, 3, 4 or 7.
   pub refused-numbers : (n p a b q : ℕ) → query numbers ends t allowance answers certificate .outcome ≡ refused n p a b q
       → ((1 ≤ n) × (n ≤ 4)) ⊎ (n ≡ 7)
-  unfolding query
-  refused-numbers n p a b q o = go (firstChecks numbers ends t) refl
-    where
-      go : (c : Check) → firstChecks numbers ends t ≡ c → ((1 ≤ n) × (n ≤ 4)) ⊎ (n ≡ 7)
-      go passed e = inr (room-enough e n p a b q o)
-      go (refusal m r) e =
-          let s : refused m r 0 0 0 ≡ refused n p a b q = rw (e, query) at o in
-          let i : m ≡ n = cc in
-          inl (door numbers ends t .numbers n r (e ∙ ap (λ x. refusal x r) i))
+  unfolding refusedBy
+  refused-numbers n p a b q o =
+      let i = ap refusedBy o in
+      ⊎-elim
+      (λ e. inr (room-enough e n p a b q o))
+      (λ k. inl (omega (arith, k .0), omega (arith, k .1)))
+      (passed-or-refused numbers ends t allowance answers certificate)

@@ -9,9 +9,9 @@ use mathlib.Core.List.{List, [], _∷_, List·Memᴰ, List·Memᴰ·head, List·
 use mathlib.Core.Logic.{_⊎_, inl, inr, ⊎-elim, _≢_}
 use mathlib.Core.Path.{_≡_, refl, sym, ap, _∙_, subst}
 use native.Mathlib.Omega.{arith}
-use Rattle.model.specs.Runs.{pastBin, holds}
+use Rattle.model.specs.Runs.{pastBin, one, holds}
 use Rattle.model.specs.Walk.{headOf}
-use Rattle.model.proofs.Tests.{lt-or-le, eq-or-ne, true-false}
+use Rattle.model.proofs.Tests.{lt-or-le, eq-or-ne, true-false, one-most}
 use Rattle.model.specs.Rows.{Rise, rise-nil, rise-cons, from, rank}
 
 pub rise-least : {a x : ℕ} {s : List ℕ} → Rise a s → List·Memᴰ x s → a ≤ x
@@ -163,6 +163,20 @@ head-below-mem {x = y} (rise-cons {x = x} {s = s} l u r) m =
 pub head-mem : (s : List ℕ) → headOf s < pastBin → List·Memᴰ (headOf s) s
 head-mem [] h = let e = head-nil in absurd (omega arith)
 head-mem (x ∷ s) h = List·Memᴰ·head (head-cons x s)
+
+-- a list whose head is below v has fewer numbers from v on, and so has one that stands at its numbers from f on
+head-fewer : (v : ℕ) (s : List ℕ) → v ≤ pastBin → length (from v s) + one (ltb (headOf s) v) ≤ length s
+unfolding one
+head-fewer v [] h = rw (from-nil v, head-nil, le-ltb pastBin v h) (omega arith)
+head-fewer v (x ∷ s) h =
+    rw (head-cons x s)
+    (⊎-elim
+    (λ p. let i = from-length v s in let m = one-most (ltb x v) in rw (from-pass v x s p) (omega arith))
+    (λ p. rw (from-stop v x s p, le-ltb x v p) (omega arith))
+    (lt-or-le x v))
+
+pub from-fewer : (f v : ℕ) (s : List ℕ) → f ≤ v → v ≤ pastBin → length (from v s) + one (ltb (headOf (from f s)) v) ≤ length (from f s)
+from-fewer f v s h k = rw (← from-from f v s h) (head-fewer v (from f s) k)
 
 -- past its head v a list is at its numbers from v + 1 on; a list with another head is there already
 pub from-past-head : {v : ℕ} {s : List ℕ} → Rise v s → headOf s ≡ v → v < pastBin → drop 1 s ≡ from (suc v) s

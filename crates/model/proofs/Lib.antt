@@ -1,3 +1,4 @@
+pub mod Allowance
 pub mod Bounds
 pub mod Checking
 pub mod Count
