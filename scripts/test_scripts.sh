@@ -1,6 +1,6 @@
 #!/usr/bin/env bash
-# Tests that the other scripts fail where they should: without rt, with a crate that is not proved, with a file or a benchmark's case that is not there, and with
-# an answer that is not whole; and that the benchmark prints its table alone. Works in a copy of the repository, but for the benchmark, which needs the library.
+# Tests that the other scripts do what the README says, `make run` to the letter, and that they fail where they should: without rt, with a crate that is not
+# proved, with a file or a benchmark's case that is not there, and with an answer that is not whole. What fails for want of a proof is tried in a copy.
 set -euo pipefail
 cd "$(dirname "$0")/.."
 
@@ -27,6 +27,23 @@ fails() {
     exit 1
   fi
 }
+
+# The first block of a page after a line that has a text, without its indent.
+block() { # PAGE TEXT
+  awk -v text="$2" '
+    !seen { seen = index($0, text) > 0; next }
+    on && /^ *```$/ { exit }
+    on { print substr($0, indent + 1) }
+    /^ *```text$/ { on = 1; indent = index($0, "`") - 1 }
+  ' "$1"
+}
+
+make --no-print-directory run >"$work/out" 2>"$work/err"
+diff "$work/out" <(block README.md 'Printed is')
+diff "$work/out" <(block docs/SPECIFICATION.md 'The program prints for the lines')
+diff examples/hits/listing.txt <(block README.md 'The question is')
+make --no-print-directory claims >"$work/out" 2>"$work/err"
+diff <(head -n 1 "$work/out") <(echo '## The three demands')
 
 # rt is not there
 for target in run claims bench; do
@@ -72,4 +89,4 @@ for cut in '' 'gap 0 1 3\n' 'gap 0 1 3\ndone 2 6' 'done 2 6 3\ngap 0 1 3\n' 'ref
     exit 1
   fi
 done
-echo "the scripts fail where they should"
+echo "the scripts do what they should, and fail where they should"
