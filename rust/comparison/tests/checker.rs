@@ -6,7 +6,7 @@ use comparison::question::Question;
 use comparison::seeds;
 use comparison::shapes::{any_runs, shaped_runs, Shape, SHAPES};
 use quorum::{Checked, Refusal};
-use reference::testing::{gap, hit, lay_out, slices, Random, M, THREE_RUNS};
+use reference::testing::{checked_instances, gap, hit, lay_out, slices, Random, M, THREE_RUNS};
 use reference::{decode, encode, is_true, trace, Part};
 
 /// How many certificates were seen with each verdict; 0 stands for true.
@@ -81,6 +81,23 @@ impl Seen {
 fn walks_own(task: Task) -> Vec<Part> {
     let (numbers, ends) = lay_out(task.runs);
     trace(&numbers, &ends, task.threshold).unwrap().parts
+}
+
+/// The instances of docs/SPECIFICATION.md.
+#[test]
+fn every_instance() {
+    let (numbers, ends) = lay_out(&THREE_RUNS);
+    let runs = slices(&THREE_RUNS);
+    let task = Task {
+        runs: &runs,
+        threshold: 2,
+    };
+    let mut seen = Seen::default();
+    for (bytes, expected) in checked_instances() {
+        assert_eq!(reference::check(&numbers, &ends, 2, &bytes), expected);
+        seen.compare_with_truth(0, task, &bytes);
+    }
+    seen.met(&[0, 8, 9, 10, 11], 1);
 }
 
 /// For random runs: the walk's own certificate, other true ones, and each of

@@ -1,8 +1,9 @@
 //! What the tests of this crate and the comparison share: short forms, rows
-//! from runs, all small inputs, random numbers, and the specification's instances as
-//! a list of runs, threshold, allowance, expected parts and outcome.
+//! from runs, all small inputs, random numbers, and the specification's
+//! instances: queries as a list of runs, threshold, allowance, expected parts
+//! and outcome, checks as one of certificates and verdicts.
 
-use crate::{Outcome, Part};
+use crate::{encode, Outcome, Part, Verdict};
 
 /// The largest bin.
 pub const M: u32 = u32::MAX;
@@ -308,4 +309,30 @@ pub fn instances() -> Vec<Instance> {
         ]);
     }
     all
+}
+
+/// The certificates of the specification's instances, checked for
+/// [`THREE_RUNS`] with threshold 2, and the verdict on each.
+pub fn checked_instances() -> Vec<(Vec<u8>, Verdict)> {
+    let parts = THREE_RUNS_PARTS;
+    let whole = encode(&parts);
+    let with_mask_11 = [&[gap(0, 1, 11)], &parts[1..]].concat();
+    let and_then = |part| encode(&[&parts[..2], &[part]].concat());
+    let refused = |number, place| Verdict::Invalid { number, place };
+    let accepted = Verdict::Valid {
+        answers: 2,
+        parts: 6,
+    };
+    vec![
+        (whole.clone(), accepted),
+        (vec![], refused(9, 0)),
+        (whole[..105].to_vec(), refused(8, 87)),
+        ([&whole[..], &[7]].concat(), refused(8, 106)),
+        ([&whole[..], &whole[..19]].concat(), refused(9, 106)),
+        (encode(&with_mask_11), refused(10, 0)),
+        (encode(&parts[..2]), refused(9, 38)),
+        (and_then(hit(5, 1)), refused(10, 38)),
+        (and_then(hit(5, 5)), refused(11, 38)),
+        (encode(&[gap(0, M, 7)]), refused(11, 0)),
+    ]
 }

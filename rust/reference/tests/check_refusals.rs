@@ -1,6 +1,8 @@
 //! The order and the places of the refusals of the checker.
 
-use reference::testing::{gap, hit, lay_out, slices, M, THREE_RUNS, THREE_RUNS_PARTS};
+use reference::testing::{
+    checked_instances, gap, hit, lay_out, slices, M, THREE_RUNS, THREE_RUNS_PARTS,
+};
 use reference::{check, decode, encode, is_true, Part, Verdict};
 
 /// Offsets of the tags in the true certificate of the three runs, threshold 2.
@@ -30,8 +32,10 @@ fn with_part(i: usize, part: Part) -> Verdict {
 }
 
 #[test]
-fn the_true_certificate() {
-    assert_eq!(verdict(&encode(&THREE_RUNS_PARTS)), valid(2, 6));
+fn every_instance() {
+    for (bytes, expected) in checked_instances() {
+        assert_eq!(verdict(&bytes), expected, "{bytes:?}");
+    }
 }
 
 #[test]
