@@ -1,8 +1,8 @@
 #!/bin/sh
-# Compiles the header by itself, runs query.c against expected.txt, and compiles
-# and runs the C lines of the README and of the header's examples, each as C and
-# as C++. A comment in those lines such as `// result: 0, 0, 84` is tested:
-# the row begins with these numbers.
+# Compiles the header by itself and with the specification's declarations, runs
+# query.c against expected.txt, and compiles and runs the C lines of the README
+# and of the header's examples, each as C and as C++. A comment in those lines
+# such as `// result: 0, 0, 84` is tested: the row begins with these numbers.
 # Takes the library from QUORUM_LIB_DIR or else from target/staticlib; a
 # relative folder is taken from the repository's top.
 set -eu
@@ -72,14 +72,20 @@ run_lines() {
     echo "the C lines of $1 do what they say, in $2 rows"
 }
 
+# c_lines PAGE: the page's lines of C
+c_lines() {
+    awk '/^```$/ { on = 0 } on; /^```c$/ { on = 1 }' "$1"
+}
+
 echo '#include "quorum.h"' >"$out/header.c"
+{ cat "$out/header.c" && c_lines docs/SPECIFICATION.md; } >"$out/declarations.c"
 for compiler in "$c" "$cxx"; do
-    $compiler -fsyntax-only "$out/header.c"
+    $compiler -fsyntax-only "$out/header.c" "$out/declarations.c"
     build "$compiler" examples/query.c query
     "$out/query" >"$out/printed.txt"
     diff examples/expected.txt "$out/printed.txt"
 done
 echo "examples/query.c prints what it should"
 
-awk '/^```$/ { on = 0 } on; /^```c$/ { on = 1 }' README.md | run_lines README.md 4
+c_lines README.md | run_lines README.md 4
 awk '/^ \*\// { on = 0 } on && sub(/^ \*     /, ""); /^ \* Example/ { on = 1 }' include/quorum.h | run_lines quorum.h 5
