@@ -10,11 +10,11 @@
  * docs/SPECIFICATION.md says whole what each call does with any input.
  *
  * Calling: every function returns for every input, reads and writes only the
- * rows it is lent, allocates nothing and keeps no state, so it may be called
- * from several threads at once on rows that no other call writes to. A pointer
- * is aligned for its type and never null, also where its length is 0: the data()
- * of an empty C++ vector may be null and must not be passed as it is. No row
- * written to may overlap another.
+ * rows it is lent, and allocates nothing. It is re-entrant and keeps no state, so
+ * it may be called from several threads at once on rows that no other call
+ * writes to. A pointer is aligned for its type and never null, also where its
+ * length is 0: the data() of an empty C++ vector may be null and must not be
+ * passed as it is. No row written to may overlap another.
  *
  * Linking: `rt staticlib quorum` makes target/staticlib/libquorum.a, for x86-64
  * Linux. It uses memcpy and memset of the C library and nothing else:
@@ -156,8 +156,8 @@ enum {
  * true certificate; quorum_probe_bound() sums this up. If nothing is known of d,
  * take QUORUM_ENOUGH_PROBES.
  *
- * Cost: one pass over the numbers for the first checks, then the probes and one
- * part for each part of the certificate, which has the fewest of all true ones.
+ * Cost: one pass over the numbers for the first checks, then the probes, and the
+ * writing of the certificate, which has the fewest parts of all true ones.
  *
  * Example: the bins in two of {2, 5, 9}, {5, 7, 9, 12} and {1, 9}.
  *

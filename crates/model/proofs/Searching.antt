@@ -1,5 +1,5 @@
--- The search (docs/SPECIFICATION.md, 'The search') in a rising list whose head is below v: it moves to the rank of v, by at most `digits` doubling probes and fewer halving
--- probes. Doubling keeps lo at half of the next place, a power of 2; halving keeps the rank between lo and hi. Assumes nothing.
+-- The search (docs/SPECIFICATION.md, 'The search') in a rising list whose head is below v: it moves to the rank of v, by at most `digits` doubling
+-- probes and fewer halving probes. Doubling keeps lo at half of the next place, a power of 2; halving keeps the rank between lo and hi. Assumes nothing.
 use Prim.Native.Nat.{ℕ, zero, suc, _+_, _-_, _*_, _/_, _^_, _≤_, _<_}
 use borrow.Author.Tests.{lt-ltb, le-ltb}
 use lib.Dec.{ltb}

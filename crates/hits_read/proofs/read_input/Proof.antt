@@ -1,20 +1,20 @@
 -- `read_input` counts bytes within the buffer, and ends. The loop's invariant: the size is at most the buffer's length, which stays as it is. The
--- measure is the room that is left and the retries that are left: a read with bytes takes from the first, an interruption from the second. Assumes
--- nothing.
-use Prim.Native.Nat.{_+_, _-_, _≤_, _<_}
+-- measure is the room and the tries that are left: a read with bytes takes from the first, an interruption from the second. Assumes nothing.
+use Prim.Native.Nat.{_+_, _-_, _^_, _≤_, _<_}
 use borrow.Author.Needs.{needs}
 use lib.ListN.{length, take, drop, length-take, length-drop}
-use mathlib.Core.Path.{_≡_, subst}
+use mathlib.Core.Path.{_≡_, sym, _∙_, subst}
 use native.Mathlib.Omega.{arith}
-use Rattle.hits_read.specs.Reading.{Within}
+use Rattle.hits_read.specs.Reading.{stepAfter, Within}
+use Rattle.hits_read.proofs.Readings.{within-more, Goes, goes-on, over-size}
 use Rattle.hits_read.proofs.read_input.Statement.{statement}
 use Rattle.hits_read.proofs.read_input.Tie as tie
 
 abbrev Inv-loop : tie.InvT-loop
-Inv-loop buf₀ size₀ failed₀ retries₀ buf size failed retries = (size ≤ length buf) × (length buf ≡ length buf₀)
+Inv-loop buf₀ size₀ tries₀ buf size tries = (size ≤ length buf) × (length buf ≡ length buf₀)
 
 abbrev μ-loop : tie.MeasureT-loop
-μ-loop buf₀ size₀ failed₀ retries₀ buf size failed retries = length buf₀ - size + retries
+μ-loop buf₀ size₀ tries₀ buf size tries = length buf₀ - size + tries
 
 loop-holds : tie.Need-loop-holds Inv-loop μ-loop
 loop-holds c = search needs
@@ -31,70 +31,62 @@ part-read-once-end c = search needs
 read-once-requires : tie.Need-read-once-requires Inv-loop μ-loop
 read-once-requires c κs = search needs
 
-enum-known-n : tie.Need-enum-known-n Inv-loop μ-loop
-enum-known-n c = search needs
+-- the loop's turn in which a read was made
+turn : tie.After-slice-known2 Inv-loop μ-loop → tie.At-loop Inv-loop μ-loop
+turn c = c .before .before .before .before .before
 
--- the bytes read are at least one, and fit what is left of the buffer
-fits : (c : tie.After-n Inv-loop μ-loop)
-    → (let n = c .n .given .0 .0 in
-    let l = c .before .before .before .before .before .before .before .loop in
-    (0 < n) × (n ≤ length (l .buf) - l .size))
+-- what was read fits what is left of the buffer
+fits : (c : tie.After-slice-known2 Inv-loop μ-loop) → Within (length (turn c .loop .buf) - turn c .loop .size) (c .before .before .read-once .result)
+unfolding turn
 fits c =
-    let l = c .before .before .before .before .before .before .before .loop in
-    let w = subst (Within _) (c .n .given .1) (c .before .before .before .before .read-once .ensures) in
+    let l = c .before .before .before .before .before .loop in
     let k : length (take (length (l .buf) - l .size) (drop (l .size) (l .buf))) ≡ length (l .buf) - l .size = simp (length-take, length-drop) (omega arith) in
-    (w .0, omega (arith, w .1))
+    subst (λ n. Within n (c .before .before .read-once .result)) k (c .before .before .read-once .ensures)
 
-add-size : tie.Need-add-size Inv-loop μ-loop
-add-size c = let f = fits (c .before) in omega (arith, f .1)
+step-after-requires : tie.Need-step-after-requires Inv-loop μ-loop
+unfolding turn
+step-after-requires c κs =
+    let l = c .before .before .before .before .before .loop in
+    within-more {room = length (l .buf) - l .size} {more = 2 ^ 64 - 1 - l .size} (c .before .before .read-once .result) (omega arith) (fits c)
+
+-- how reading goes on
+goes : (c : tie.After-known-told Inv-loop μ-loop)
+    → (let s = c .before .before .before .before in
+    let l = turn s .loop in
+    Goes (length (l .buf) - l .size) (l .size) (l .tries) (c .before .next .given .0 .0) (c .before .next .given .0 .1 .0))
+unfolding turn
+goes c =
+    let s = c .before .before .before in
+    goes-on _ _ _ _ _ _ (fits (s .before)) (sym (c .before .next .given .1) ∙ s .step-after .ensures)
+
+enum-known-next : tie.Need-enum-known-next Inv-loop μ-loop
+enum-known-next c = search needs
 
 loop-less : tie.Need-loop-less Inv-loop μ-loop
-loop-less c = let f = fits (c .before) in omega (arith, f .0, f .1)
+unfolding turn
+loop-less c = let g = goes c in omega (arith, g .inside, g .further, g .falls)
 
 loop-again : tie.Need-loop-again Inv-loop μ-loop
-loop-again c = let f = fits (c .before) in (omega (arith, f .1), omega arith)
+unfolding turn
+loop-again c = let g = goes c in (omega (arith, g .inside, g .further), omega arith)
 
-enum-told : tie.Need-enum-told Inv-loop μ-loop
-enum-told c = search needs
-
-enum-told-2 : tie.Need-enum-told-2 Inv-loop μ-loop
-enum-told-2 c = search needs
-
-sub-retries : tie.Need-sub-retries Inv-loop μ-loop
-sub-retries c = search needs
-
-loop-less-2 : tie.Need-loop-less-2 Inv-loop μ-loop
-loop-less-2 c = search needs
-
-loop-again-2 : tie.Need-loop-again-2 Inv-loop μ-loop
-loop-again-2 c = search needs
-
-enum-told-3 : tie.Need-enum-told-3 Inv-loop μ-loop
-enum-told-3 c = search needs
+enum-known-count : tie.Need-enum-known-count Inv-loop μ-loop
+enum-known-count c = search needs
 
 same-length : tie.Need-same-length Inv-loop μ-loop
 same-length c = search needs
 
 returns : tie.Need-returns Inv-loop μ-loop
-returns c = search needs
+returns c =
+    let s = c .before .before .before in
+    let e = over-size _ _ _ _ _ (sym (c .before .count .given .1) ∙ s .step-after .ensures) in
+    omega (arith, e)
 
 same-length-2 : tie.Need-same-length-2 Inv-loop μ-loop
 same-length-2 c = search needs
 
 returns-2 : tie.Need-returns-2 Inv-loop μ-loop
 returns-2 c = search needs
-
-same-length-3 : tie.Need-same-length-3 Inv-loop μ-loop
-same-length-3 c = search needs
-
-returns-3 : tie.Need-returns-3 Inv-loop μ-loop
-returns-3 c = search needs
-
-same-length-4 : tie.Need-same-length-4 Inv-loop μ-loop
-same-length-4 c = search needs
-
-returns-4 : tie.Need-returns-4 Inv-loop μ-loop
-returns-4 c = search needs
 
 pub read-input-spec : {M : Type 1} → statement M
 read-input-spec =
@@ -107,21 +99,12 @@ read-input-spec =
     part-read-once-start
     part-read-once-end
     read-once-requires
-    enum-known-n
-    add-size
+    step-after-requires
+    enum-known-next
     loop-less
     loop-again
-    enum-told
-    enum-told-2
-    sub-retries
-    loop-less-2
-    loop-again-2
-    enum-told-3
+    enum-known-count
     same-length
     returns
     same-length-2
-    returns-2
-    same-length-3
-    returns-3
-    same-length-4
-    returns-4)
+    returns-2)
