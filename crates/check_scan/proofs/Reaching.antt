@@ -12,9 +12,7 @@ use mathlib.Core.Logic.{⊎-elim}
 use mathlib.Core.Path.{_≡_, refl, sym, ap, _∙_}
 use native.Mathlib.Nat.{pow-suc}
 use native.Mathlib.Omega.{arith}
-use Rattle.mask.proofs.Lowest.{bit-zero, bit-half}
-use Rattle.mask.proofs.Mask.{bit-and}
-use Rattle.model.proofs.Masks.{bit-small}
+use Rattle.model.proofs.Masks.{bit-small, bit-zero, bit-half, bit-and}
 use Rattle.model.proofs.Tests.{both, lt-or-le}
 use Rattle.model.specs.Runs.{bit, one}
 use Rattle.check_cursor.specs.Cursors.{cursorPlaces, binOf}

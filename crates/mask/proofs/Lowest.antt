@@ -10,20 +10,11 @@ use native.Mathlib.Nat.{div-one, mod-lt, suc-mul}
 use native.Mathlib.Omega.{arith}
 use Rattle.mask.specs.Mask.{Lowest, LowestGone}
 use Rattle.mask.proofs.Mask.{bit-above, bit-added}
-use Rattle.model.proofs.Masks.{bit-of}
+use Rattle.model.proofs.Masks.{bit-of, bit-zero, bit-half}
 use Rattle.model.proofs.Tests.{lt-or-le, eq-or-ne}
 use Rattle.model.specs.Runs.{bit}
 
 -- The lowest run.
-
-pub bit-zero : (m : ℕ) → bit m 0 ≡ m % 2
-bit-zero m = bit-of m 0 ∙ ap (λ (x : ℕ). x % 2) (div-one m)
-
--- a run past the first is a run of the half
-pub bit-half : (m i : ℕ) → bit m (suc i) ≡ bit (m / 2) i
-bit-half m i =
-    let e : 1 + i ≡ suc i = omega arith in
-    bit-of m (suc i) ∙ (ap (λ (x : ℕ). m / 2 ^ x % 2) (sym e) ∙ (ap (λ (x : ℕ). x % 2) (sym (shr-shr m 1 i)) ∙ sym (bit-of (m / 2) i)))
 
 -- run t is the lowest of m, whose width is k
 record LowestIn (k m t : ℕ) : Type 0 where

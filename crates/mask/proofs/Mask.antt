@@ -10,7 +10,7 @@ use mathlib.Core.Logic.{_≢_, ⊎-elim}
 use mathlib.Core.Path.{_≡_, sym, ap, _∙_}
 use native.Mathlib.Nat.{div-eq-of-lt, mod-lt, mod-eq-of-lt}
 use native.Mathlib.Omega.{arith}
-use Rattle.model.proofs.Masks.{bit-of, bit-small}
+use Rattle.model.proofs.Masks.{bit-of, bit-small, bit-and}
 use Rattle.model.proofs.Tests.{lt-or-le, eq-or-ne, true-false}
 use Rattle.model.specs.Runs.{bit}
 
@@ -22,11 +22,7 @@ one-shifted w i h = let e : 1 * 2 ^ i ≡ 2 ^ i = omega arith in rw e (mod-eq-of
 pub bit-above : (m i : ℕ) → m < 2 ^ i → bit m i ≡ 0
 bit-above m i h = bit-of m i ∙ rw (div-eq-of-lt h)
 
--- a run is in both masks, or in one of the two
-pub bit-and : (m n i : ℕ) → bit (bitAnd m n) i ≡ min (bit m i) (bit n i)
-unfolding bit
-bit-and m n i = let e = and-step (m / 2 ^ i) (n / 2 ^ i) in rw (and-shr m n i) (omega arith)
-
+-- a run is in one of two masks
 bit-or : (m n i : ℕ) → bit (bitOr m n) i ≡ max (bit m i) (bit n i)
 unfolding bit
 bit-or m n i = let e = or-step (m / 2 ^ i) (n / 2 ^ i) in rw (or-shr m n i) (omega arith)

@@ -40,8 +40,8 @@ module _ (numbers ends : List ℕ) (t : ℕ) where
   unfolding runs boundOf
   numbers-bound e =
       let p = first-passed numbers ends t e in
-      let z = p .ends-last in
-      let l = runs-numbers 0 0 0 numbers ends (p .ends-rise) in
+      let z = p .lists .ends-last in
+      let l = runs-numbers 0 0 0 numbers ends (p .lists .ends-rise) in
       let n : total (λ r. length (r .bins)) (runs numbers ends) ≤ length numbers = omega arith in
       let k = sum-bound (length numbers) (runs numbers ends) n in
       let i = mul-le-mul-right (2 * digits (length numbers)) n in
@@ -51,7 +51,7 @@ module _ (numbers ends : List ℕ) (t : ℕ) where
   most-bound : firstChecks numbers ends t ≡ passed → boundOf (length numbers) (length numbers) ≤ 2 * mostNumbers * 21
   unfolding boundOf
   most-bound e =
-      let l = first-passed numbers ends t e .few-numbers in
+      let l = first-passed numbers ends t e .lists .few-numbers in
       mul-le-mul (mul-le-mul-left 2 l) (digits-least (length numbers) 21 (omega arith))
 
 module _ (numbers ends : List ℕ) (t allowance : ℕ) (answers certificate : List ℕ) (bins : Fits pastBin numbers) where

@@ -20,10 +20,10 @@ use Rattle.model.proofs.Digits.{digits-mono}
 use Rattle.model.proofs.Events.{cost-append, cost-replicate, cost-searches, parts-wrote, parts-round}
 use Rattle.model.specs.Rows.{Rise, from}
 use Rattle.model.proofs.From.{rise-from, from-length, from-fewer, head-nil, head-cons}
-use Rattle.model.proofs.Masks.{Labelled, label-first, label-rest, label-least}
+use Rattle.model.proofs.Masks.{Ascending, ascending-first, ascending-rest, ascending-least}
 use Rattle.model.proofs.Searching.{sought-right}
 use Rattle.model.proofs.Tests.{lt-or-le, one-most}
-use Rattle.model.proofs.Truth.{Fit, labelled-at}
+use Rattle.model.proofs.Truth.{Fit, ascending-at}
 use Rattle.model.proofs.Walking.{Rising, rising-tail, fromRun, at, Walked, over, stop, pass, hit, hit-here}
 
 -- a search that is made, and one that is not
@@ -89,24 +89,24 @@ from-search v f r g b =
     let d = mul-le-mul-left (one (ltb (headOf (from f (r .bins))) v)) (digits-mono (from-length f (r .bins))) in
     omega arith
 
-round-total : (v f : ℕ) {a : ℕ} (rs : List Run) → Labelled a rs → Rising rs → v ≤ pastBin → (r : Run) → List·Memᴰ r rs
+round-total : (v f : ℕ) {a : ℕ} (rs : List Run) → Ascending a rs → Rising rs → v ≤ pastBin → (r : Run) → List·Memᴰ r rs
     → total (λ q. probesIn (r .label) (searchIn v (fromRun f q))) rs ≤ one (ltb (headOf (from f (r .bins))) v) * (2 * digits (length (r .bins)))
 unfolding total fromRun
 round-total v f [] l g b r m = absurd (List·Memᴰ·not-nil m)
 round-total v f {a} (s ∷ rs) l g b r m =
-    let e = label-first l in
+    let e = ascending-first l in
     ⊎-elim
     (λ (i : r ≡ s).
     let j = ap (λ (x : Run). x .label) i in
     let k = from-search v f r (g .each r m) b in
     let same = ap (λ (x : Run). probesIn (r .label) (searchIn v (fromRun f x))) i in
     let z = total-zero (λ q. probesIn (r .label) (searchIn v (fromRun f q))) rs
-    (λ q n. let w = label-least rs (label-rest l) q n in other-search v (r .label) (fromRun f q) (omega arith)) in
+    (λ q n. let w = ascending-least rs (ascending-rest l) q n in other-search v (r .label) (fromRun f q) (omega arith)) in
     omega arith)
     (λ (n : List·Memᴰ r rs).
-    let w = label-least rs (label-rest l) r n in
+    let w = ascending-least rs (ascending-rest l) r n in
     let z = other-search v (r .label) (fromRun f s) (omega arith) in
-    let k = round-total v f rs (label-rest l) (rising-tail g) b r n in
+    let k = round-total v f rs (ascending-rest l) (rising-tail g) b r n in
     omega arith)
     (List·Memᴰ·cases-cons m)
 
@@ -164,22 +164,22 @@ walk-probes g (hit-here a q w) r m = probed-answer _ (a .bin) (walk-probes g w r
 pub record Owned (rs : List Run) (es : List Event) : Type 0 where
   pub each : (e : Event) → List·Memᴰ e es → total (λ r. probeIn (r .label) e) rs ≡ probe e
 
-one-label : {a : ℕ} (rs : List Run) → Labelled a rs → (q : Run) → List·Memᴰ q rs → total (λ r. one (eqb (r .label) (q .label))) rs ≡ 1
+one-label : {a : ℕ} (rs : List Run) → Ascending a rs → (q : Run) → List·Memᴰ q rs → total (λ r. one (eqb (r .label) (q .label))) rs ≡ 1
 unfolding total one
 one-label [] l q m = absurd (List·Memᴰ·not-nil m)
 one-label (s ∷ rs) l q m =
-    let e = label-first l in
+    let e = ascending-first l in
     ⊎-elim
     (λ (i : q ≡ s).
     let j : s .label ≡ q .label = sym (ap (λ (x : Run). x .label) i) in
     let z = total-zero (λ r. one (eqb (r .label) (q .label))) rs
-    (λ r n. let w = label-least rs (label-rest l) r n in ap one (ne-eqb (r .label) (q .label) (omega arith))) in
+    (λ r n. let w = ascending-least rs (ascending-rest l) r n in ap one (ne-eqb (r .label) (q .label) (omega arith))) in
     let k = ap one (eq-eqb (s .label) (q .label) j) in
     omega arith)
     (λ (n : List·Memᴰ q rs).
-    let w = label-least rs (label-rest l) q n in
+    let w = ascending-least rs (ascending-rest l) q n in
     let k = ap one (ne-eqb (s .label) (q .label) (omega arith)) in
-    let i = one-label rs (label-rest l) q n in
+    let i = one-label rs (ascending-rest l) q n in
     omega arith)
     (List·Memᴰ·cases-cons m)
 
@@ -190,7 +190,7 @@ replicate-mem (suc n) x e m = ⊎-elim (λ i. i) (λ k. replicate-mem n x e k) (
 owned-event : (rs : List Run) (e e′ : Event) → e ≡ e′ → total (λ r. probeIn (r .label) e′) rs ≡ probe e′ → total (λ r. probeIn (r .label) e) rs ≡ probe e
 owned-event rs e e′ i h = rw i h
 
-owned-search : {a : ℕ} (rs : List Run) → Labelled a rs → (v : ℕ) (q : Run) → List·Memᴰ q rs → (e : Event) → List·Memᴰ e (searchIn v q)
+owned-search : {a : ℕ} (rs : List Run) → Ascending a rs → (v : ℕ) (q : Run) → List·Memᴰ q rs → (e : Event) → List·Memᴰ e (searchIn v q)
     → total (λ r. probeIn (r .label) e) rs ≡ probe e
 unfolding probeIn probe
 owned-search rs l v q m e n =
@@ -224,7 +224,7 @@ owned-searches : {rs : List Run} {t : ℕ} (v f : ℕ) → Fit rs t → (e : Eve
     → total (λ r. probeIn (r .label) e) rs ≡ probe e
 owned-searches {rs} v f g e m =
     let s = searches-mem v (at f rs) e m in
-    sym (labels-at f e rs) ∙ owned-search (at f rs) (labelled-at f (g .labels)) v (s .0) (s .1) e (s .2)
+    sym (labels-at f e rs) ∙ owned-search (at f rs) (ascending-at f (g .labels)) v (s .0) (s .1) e (s .2)
 
 owned-part : (rs : List Run) (e : Event) (p : Part) → e ≡ wrote p → total (λ r. probeIn (r .label) e) rs ≡ probe e
 unfolding probeIn probe

@@ -2,26 +2,27 @@
 -- the next uncovered bin, and each such part passes its tests. Assumes nothing.
 use Prim.Native.Nat.{ℕ, zero, suc, _+_, _-_, _*_, _/_, _^_, _≤_, _<_}
 use borrow.Author.Tests.{eq-eqb, ne-eqb, le-ltb, lt-ltb, le-leb, lt-leb, eqb-true, eqb-false, ltb-false, leb-true, leb-false, not-false}
+use lib.Bits.{bitAnd}
 use lib.Count.{ones}
 use lib.Dec.{ltb, leb, eqb}
 use lib.ListN.{length, length-append}
-use lib.Pow.{pow-pos, pow-mono}
 use mathlib.Core.Bool.{Bool, true, false, _&&_, _||_, not}
 use mathlib.Core.List.{List, [], _∷_, _++_, List·Memᴰ, List·Memᴰ·head, List·Memᴰ·tail, List·Memᴰ·not-nil, List·Memᴰ·cases-cons}
 use mathlib.Core.Logic.{⊎-elim, _≢_}
 use mathlib.Core.Path.{_≡_, refl, sym, ap, ap₂, _∙_, subst}
-use native.Mathlib.Nat.{div-eq-of-lt, div-lt-iff-lt-mul, one-mul}
 use native.Mathlib.Omega.{arith}
-use Rattle.model.specs.Certificate.{Part, answer, gap, firstOf, lastOf, maskOf, answersOf, encodePart, encode, sizeOf, Reading, unreadable, read, readField, Covers, covered, covers, TrueGap, TrueAnswer, TruePart, gap-true, answer-true}
+use Rattle.model.specs.Certificate.{Part, answer, gap, firstOf, lastOf, maskOf, answersOf, encodePart, encode, sizeOf, Reading, unreadable, read, readField, Covers, covered, covers, NamesOnly, TrueGap, TrueAnswer, TruePart, gap-true, answer-true}
 use Rattle.model.specs.Demands.{Fits, Accepts}
 use Rattle.model.specs.Between.{within}
-use Rattle.model.specs.Refusals.{Check, passed, refusal, _then_, refuseIf, firstChecks, Verdict, valid, invalid, misplaced, misnamed, contradicts, anyContradicts, checkPart, counted, atEnd, checkFrom, check}
-use Rattle.model.specs.Runs.{Run, firstBin, pastBin, runs, names, mostRuns}
+use Rattle.model.specs.Refusals.{Check, passed, refusal, _then_, refuseIf, firstChecks, chosenChecks, Verdict, valid, invalid, misplaced, namesOther, misnamed, contradicts, anyContradicts, checkPart, counted, atEnd, checkFrom, judged, check, checkChosen}
+use Rattle.model.specs.Runs.{Run, firstBin, pastBin, runs, mask, maskOfAll, bit, names, chosen, mostRuns, maskBits}
 use Rattle.model.proofs.Encoding.{InRange, read-back, part-size, read-field}
 use Rattle.model.proofs.Fewest.{covers-nil, covers-first, covers-order, covers-rest}
-use Rattle.model.proofs.FirstChecks.{then-first, then-second, refuse-if, first-passed, runs-length}
+use Rattle.model.proofs.Chosen.{chosen-mem, chosen-ascending}
+use Rattle.model.proofs.Digits.{below-pow}
+use Rattle.model.proofs.FirstChecks.{then-first, then-second, refuse-if, first-passed, chosen-passed, all-labelled, all-length, every-run}
 use Rattle.model.proofs.From.{holds-mem, mem-holds}
-use Rattle.model.proofs.Masks.{below-only, only-below}
+use Rattle.model.proofs.Masks.{label-below, Ascending, ascending, only-below, and-all, and-bit, names-mask, mask-bit, mask-of-all}
 use Rattle.model.proofs.Tests.{both, lt-or-le, eq-or-ne, or-false, and-false, true-false}
 
 -- ---- what the tests say
@@ -59,15 +60,23 @@ within-some f l (y ∷ s) x m i j =
     (List·Memᴰ·cases-cons m)))
     (both (leb f y && leb y l))
 
--- a mask that a shift by k leaves empty names only runs below k
-shift-only : (m k : ℕ) → not (eqb (m / 2 ^ k) 0) ≡ false → m < 2 ^ k
-shift-only m k e =
-    let z : m / 2 ^ k ≡ 0 = eqb-true (m / 2 ^ k) 0 (not-false (eqb (m / 2 ^ k) 0) e) in
-    let i = div-lt-iff-lt-mul {x = m} {y = 1} (pow-pos k) .0 (omega arith) in
-    omega (arith, one-mul (2 ^ k))
+-- what it means that a mask names no other run
+only-others : (rs : List Run) (m : ℕ) → Ascending 0 rs → namesOther rs m ≡ false → NamesOnly m rs
+unfolding namesOther
+only-others rs m l e i b =
+    let z = eqb-true (bitAnd m (maskOfAll rs)) m (not-false _ e) in
+    let t = mask-bit (λ r. true) rs l i (ap (λ x. bit x i) (sym (mask-of-all rs)) ∙ and-bit m (maskOfAll rs) i z b) in
+    (t .0, t .1, t .2)
 
-only-shift : (m k : ℕ) → m < 2 ^ k → not (eqb (m / 2 ^ k) 0) ≡ false
-only-shift m k h = rw (eq-eqb (m / 2 ^ k) 0 (div-eq-of-lt h))
+others-only : (rs : List Run) (m : ℕ) → Ascending 0 rs → NamesOnly m rs → namesOther rs m ≡ false
+unfolding namesOther names
+others-only rs m l h =
+    rw (eq-eqb (bitAnd m (maskOfAll rs)) m
+    (and-all m m (maskOfAll rs) (below-pow m)
+    (λ i b.
+    let t = h i b in
+    let n = names-mask (λ r. true) rs l (t .0) (t .1) in
+    ap (λ x. bit x i) (mask-of-all rs) ∙ (ap (bit (mask (λ r. true) rs)) (sym (t .2)) ∙ eqb-true _ 1 n))))
 
 any-false : (p : Part) (rs : List Run) → anyContradicts p rs ≡ false → (r : Run) → List·Memᴰ r rs → contradicts p r ≡ false
 unfolding anyContradicts
@@ -83,19 +92,19 @@ none-any p (s ∷ rs) h = rw (h s (List·Memᴰ·head refl), none-any p rs (λ r
 
 -- ---- a part that passes 10 and 11 is true, and a true part passes them
 
-passed-true : (rs : List Run) (t : ℕ) (p : Part) → misnamed (length rs) t p ≡ false → anyContradicts p rs ≡ false → TruePart rs t p
+passed-true : (rs : List Run) (t : ℕ) (p : Part) → Ascending 0 rs → misnamed rs t p ≡ false → anyContradicts p rs ≡ false → TruePart rs t p
 unfolding misnamed contradicts
-passed-true rs t (answer v m) e h =
-    let d = or-false (not (eqb (m / 2 ^ length rs) 0)) (ltb (ones m) t) e in
+passed-true rs t (answer v m) l e h =
+    let d = or-false (namesOther rs m) (ltb (ones m) t) e in
     answer-true (record {
-      only = λ i b. below-only m (length rs) i (shift-only m (length rs) (d .0)) b;
+      only = only-others rs m l (d .0);
       enough = ltb-false (ones m) t (d .1);
       has = λ r k n. holds-mem v (r .bins) (not-false _ (and-false _ _ (any-false (answer v m) rs h r k) n));
     })
-passed-true rs t (gap f l m) e h =
-    let d = or-false (not (eqb (m / 2 ^ length rs) 0)) (ltb (ones m) (length rs - t + 1)) e in
+passed-true rs t (gap f l m) a e h =
+    let d = or-false (namesOther rs m) (ltb (ones m) (length rs - t + 1)) e in
     gap-true (record {
-      only = λ i b. below-only m (length rs) i (shift-only m (length rs) (d .0)) b;
+      only = only-others rs m a (d .0);
       enough = ltb-false (ones m) (length rs - t + 1) (d .1);
       misses = λ r k n x q i j.
           let z = eqb-true (length (within f l (r .bins))) 0 (not-false _ (and-false _ _ (any-false (gap f l m) rs h r k) n)) in
@@ -103,12 +112,10 @@ passed-true rs t (gap f l m) e h =
           absurd (omega arith);
     })
 
-true-named : {rs : List Run} {t : ℕ} {p : Part} → TruePart rs t p → misnamed (length rs) t p ≡ false
+true-named : {rs : List Run} {t : ℕ} {p : Part} → Ascending 0 rs → TruePart rs t p → misnamed rs t p ≡ false
 unfolding misnamed
-true-named {rs} {t} (gap-true {m = m} q) =
-    rw (only-shift m (length rs) (only-below m (length rs) (q .only))) (le-ltb (ones m) (length rs - t + 1) (q .enough))
-true-named {rs} {t} (answer-true {m = m} q) =
-    rw (only-shift m (length rs) (only-below m (length rs) (q .only))) (le-ltb (ones m) t (q .enough))
+true-named {rs} {t} a (gap-true {m = m} q) = rw (others-only rs m a (q .only)) (le-ltb (ones m) (length rs - t + 1) (q .enough))
+true-named {rs} {t} a (answer-true {m = m} q) = rw (others-only rs m a (q .only)) (le-ltb (ones m) t (q .enough))
 
 answer-agrees : (rs : List Run) (t v m : ℕ) → TrueAnswer rs t v m → (r : Run) → List·Memᴰ r rs → contradicts (answer v m) r ≡ false
 unfolding contradicts
@@ -138,9 +145,9 @@ record Settled (rs : List Run) (t b : ℕ) (p : Part) : Type 0 where
   order : firstOf p ≤ lastOf p
   is-true : TruePart rs t p
 
-settled : (rs : List Run) (t b at : ℕ) (p : Part) → checkPart rs t b at p ≡ passed → Settled rs t b p
+settled : (rs : List Run) (t b at : ℕ) (p : Part) → Ascending 0 rs → checkPart rs t b at p ≡ passed → Settled rs t b p
 unfolding checkPart misplaced
-settled rs t b at p e =
+settled rs t b at p l e =
     let c₁ = refuse-if _ 9 at (then-first _ _ e) in
     let e₂ = then-second _ _ e in
     let c₂ = refuse-if _ 10 at (then-first _ _ e₂) in
@@ -150,13 +157,13 @@ settled rs t b at p e =
     record {
       first = eqb-true (firstOf p) b (not-false _ (d₁ .0));
       order = ltb-false (lastOf p) (firstOf p) (d₂ .0);
-      is-true = passed-true rs t p c₂ c₃;
+      is-true = passed-true rs t p l c₂ c₃;
     }
 
-settles : (rs : List Run) (t b at : ℕ) (p : Part) → firstOf p ≡ b → firstOf p ≤ lastOf p → b ≢ pastBin → TruePart rs t p → checkPart rs t b at p ≡ passed
+settles : (rs : List Run) (t b at : ℕ) (p : Part) → Ascending 0 rs → firstOf p ≡ b → firstOf p ≤ lastOf p → b ≢ pastBin → TruePart rs t p → checkPart rs t b at p ≡ passed
 unfolding checkPart misplaced _then_ refuseIf
-settles rs t b at p e l n h =
-    rw (eq-eqb (firstOf p) b e, le-ltb (lastOf p) (firstOf p) l, ne-eqb b pastBin n, true-named h, true-agrees h)
+settles rs t b at p a e l n h =
+    rw (eq-eqb (firstOf p) b e, le-ltb (lastOf p) (firstOf p) l, ne-eqb b pastBin n, true-named a h, true-agrees h)
 
 -- ---- the whole
 
@@ -231,15 +238,15 @@ field-tail rs t b a n bytes rest p h e s v i next =
     }
 
 -- only true certificates are accepted
-accepted-true : (fuel : ℕ) (rs : List Run) (t b at : ℕ) (bytes : List ℕ) (a n : ℕ) → length bytes ≤ fuel → Fits 256 bytes
+accepted-true : (fuel : ℕ) (rs : List Run) (t b at : ℕ) (bytes : List ℕ) (a n : ℕ) → Ascending 0 rs → length bytes ≤ fuel → Fits 256 bytes
     → checkFrom fuel rs t b at bytes ≡ valid a n → Tail rs t b bytes a n
 unfolding checkFrom
-accepted-true zero rs t b at [] a n l h e = end-valid rs t b at a n e
-accepted-true zero rs t b at (x ∷ bytes) a n l h e = absurd (omega arith)
-accepted-true (suc fuel) rs t b at [] a n l h e = end-valid rs t b at a n e
-accepted-true (suc fuel) rs t b at (x ∷ bytes) a n l h e =
+accepted-true zero rs t b at [] a n o l h e = end-valid rs t b at a n e
+accepted-true zero rs t b at (x ∷ bytes) a n o l h e = absurd (omega arith)
+accepted-true (suc fuel) rs t b at [] a n o l h e = end-valid rs t b at a n e
+accepted-true (suc fuel) rs t b at (x ∷ bytes) a n o l h e =
     reading (readField (x ∷ bytes)) refl
-    (λ p rest k c i f. accepted-true fuel rs t (suc (lastOf p)) (at + sizeOf p) rest c k (shorter p rest i) f)
+    (λ p rest k c i f. accepted-true fuel rs t (suc (lastOf p)) (at + sizeOf p) rest c k o (shorter p rest i) f)
   where
     shorter : (p : Part) (rest : List ℕ) → readField (x ∷ bytes) ≡ read p rest → length rest ≤ fuel
     shorter p rest i =
@@ -255,7 +262,7 @@ accepted-true (suc fuel) rs t b at (x ∷ bytes) a n l h e =
 
     checking : (p : Part) (rest : List ℕ) (o : Check) → readField (x ∷ bytes) ≡ read p rest → checkPart rs t b at p ≡ o → Next → Tail rs t b (x ∷ bytes) a n
     checking p rest passed i j next =
-        field-tail rs t b a n (x ∷ bytes) rest p h i (settled rs t b at p j) (checkFrom fuel rs t (suc (lastOf p)) (at + sizeOf p) rest)
+        field-tail rs t b a n (x ∷ bytes) rest p h i (settled rs t b at p o j) (checkFrom fuel rs t (suc (lastOf p)) (at + sizeOf p) rest)
         (sym (check-read fuel rs t b at x bytes rest p i j) ∙ e)
         (λ c k w f. next p rest k c i f w)
     checking p rest (refusal m place) i j next =
@@ -282,18 +289,24 @@ past-bytes : pastBin ≡ 256 ^ 4
 unfolding pastBin
 past-bytes = refl
 
-true-mask : {rs : List Run} {t : ℕ} {p : Part} → TruePart rs t p → maskOf p < 2 ^ length rs
-unfolding maskOf
-true-mask {rs} (gap-true {m = m} q) = only-below m (length rs) (q .only)
-true-mask {rs} (answer-true {m = m} q) = only-below m (length rs) (q .only)
+-- runs that a mask has bits for
+pub record Narrow (rs : List Run) : Type 0 where
+  pub each : (r : Run) → List·Memᴰ r rs → r .label < maskBits
 
-pub in-range : {rs : List Run} {t b : ℕ} {p : Part} {ps : List Part} → Covers b (p ∷ ps) → TruePart rs t p → length rs ≤ mostRuns → InRange p
+only-narrow : (m : ℕ) (rs : List Run) → Narrow rs → NamesOnly m rs → m < 2 ^ maskBits
+only-narrow m rs n h = only-below m maskBits (λ i e. let t = h i e in let b = n .each (t .0) (t .1) in omega (arith, t .2))
+
+true-mask : {rs : List Run} {t : ℕ} {p : Part} → Narrow rs → TruePart rs t p → maskOf p < 2 ^ maskBits
+unfolding maskOf
+true-mask {rs} n (gap-true {m = m} q) = only-narrow m rs n (q .only)
+true-mask {rs} n (answer-true {m = m} q) = only-narrow m rs n (q .only)
+
+pub in-range : {rs : List Run} {t b : ℕ} {p : Part} {ps : List Part} → Covers b (p ∷ ps) → TruePart rs t p → Narrow rs → InRange p
 in-range {rs} {p = p} {ps = ps} c h k =
     let i = covers-past (suc (lastOf p)) ps (covers-rest c) in
     let l = covers-order c in
     let e = past-bytes in
-    let m = true-mask h in
-    let w = pow-mono k in
+    let m = true-mask k h in
     record { first = omega arith; last = omega arith; named = omega arith }
 
 -- a field has a first byte
@@ -307,17 +320,17 @@ unfolding checkFrom atEnd
 end-here zero rs t b at e = rw (eq-eqb b pastBin e, atEnd)
 end-here (suc fuel) rs t b at e = rw (eq-eqb b pastBin e, atEnd)
 
-true-accepted : (fuel : ℕ) (rs : List Run) (t b at : ℕ) (ps : List Part) → length rs ≤ mostRuns → Covers b ps → ((p : Part) → List·Memᴰ p ps → TruePart rs t p)
+true-accepted : (fuel : ℕ) (rs : List Run) (t b at : ℕ) (ps : List Part) → Ascending 0 rs → Narrow rs → Covers b ps → ((p : Part) → List·Memᴰ p ps → TruePart rs t p)
     → length (encode ps) ≤ fuel → checkFrom fuel rs t b at (encode ps) ≡ valid (length (answersOf ps)) (length ps)
 unfolding encode answersOf
-true-accepted zero rs t b at [] k c h l = end-here zero rs t b at (covers-nil c)
-true-accepted (suc fuel) rs t b at [] k c h l = end-here (suc fuel) rs t b at (covers-nil c)
-true-accepted zero rs t b at (p ∷ ps) k c h l =
+true-accepted zero rs t b at [] a k c h l = end-here zero rs t b at (covers-nil c)
+true-accepted (suc fuel) rs t b at [] a k c h l = end-here (suc fuel) rs t b at (covers-nil c)
+true-accepted zero rs t b at (p ∷ ps) a k c h l =
     let z = length-append (encodePart p) (encode ps) in
     let s = part-size p in
     let y = size-pos p in
     absurd (omega arith)
-true-accepted (suc fuel) rs t b at (p ∷ ps) k c h l =
+true-accepted (suc fuel) rs t b at (p ∷ ps) a k c h l =
     let q = h p (List·Memᴰ·head refl) in
     let d = encode-cons p in
     let e = read-back p (encode ps) (in-range c q k) in
@@ -328,24 +341,44 @@ true-accepted (suc fuel) rs t b at (p ∷ ps) k c h l =
     let o = covers-order c in
     let f = covers-first c in
     let n : b ≢ pastBin = omega arith in
-    let w = settles rs t b at p f o n q in
-    let i = true-accepted fuel rs t (suc (lastOf p)) (at + sizeOf p) ps k (covers-rest c) (λ r m. h r (List·Memᴰ·tail m)) (omega arith) in
+    let w = settles rs t b at p a f o n q in
+    let i = true-accepted fuel rs t (suc (lastOf p)) (at + sizeOf p) ps a k (covers-rest c) (λ r m. h r (List·Memᴰ·tail m)) (omega arith) in
     rw (d .2) (check-read fuel rs t b at (d .0) (d .1 ++ encode ps) (encode ps) p (rw (d .2) at e) w ∙ (ap (counted p) i ∙ valid-counted p ps))
 
--- Demand 2 for the checker, for lists and a threshold that pass the first checks: it accepts a certificate if it is true and only then.
-pub accepts : (numbers ends : List ℕ) (t : ℕ) (certificate : List ℕ) → Fits 256 certificate → firstChecks numbers ends t ≡ passed
-    → Accepts (runs numbers ends) t certificate (check numbers ends t certificate)
-unfolding check runs
-accepts numbers ends t certificate h e =
-    let p = first-passed numbers ends t e in
-    let n = runs-length 0 0 numbers ends in
-    let k = p .few-runs in
+-- Of runs whose labels rise and have a bit in a mask, the checker accepts a certificate if it is true and only then.
+judges : (rs : List Run) (t : ℕ) (certificate : List ℕ) → Ascending 0 rs → Narrow rs → Fits 256 certificate
+    → Accepts rs t certificate (checkFrom (length certificate) rs t firstBin 0 certificate)
+judges rs t certificate l n h =
     record {
       only-true = λ a c i.
-          let r = accepted-true (length certificate) (runs numbers ends) t firstBin 0 certificate a c (omega arith) h (rw (e, check) at i) in
+          let r = accepted-true (length certificate) rs t firstBin 0 certificate a c l (omega arith) h i in
           (r .parts, record { covering = r .covering; each = r .each }, r .same, r .answers, r .number);
-      every-true = λ ps c i.
-          rw (e, check)
-          (rw i
-          (true-accepted (length (encode ps)) (runs numbers ends) t firstBin 0 ps (omega arith) (c .covering) (c .each) (omega arith)));
+      every-true = λ ps c i. rw i (true-accepted (length (encode ps)) rs t firstBin 0 ps l n (c .covering) (c .each) (omega arith));
     }
+
+pub chosen-narrow : (numbers ends : List ℕ) (m : ℕ) → length ends ≤ mostRuns → Narrow (chosen m (runs numbers ends))
+chosen-narrow numbers ends m k =
+    let n = all-length numbers ends in
+    record {
+      each = λ r o.
+          let b = label-below (runs numbers ends) (all-labelled numbers ends) r (chosen-mem m (runs numbers ends) o .0) in omega arith;
+    }
+
+-- Demand 2 for the checker, for lists, a mask and a threshold that pass the first checks: it accepts a certificate if it is true of the chosen runs and only
+-- then.
+pub accepts-chosen : (numbers ends : List ℕ) (m t : ℕ) (certificate : List ℕ) → Fits 256 certificate → chosenChecks numbers ends m t ≡ passed
+    → Accepts (chosen m (runs numbers ends)) t certificate (checkChosen numbers ends m t certificate)
+unfolding checkChosen judged
+accepts-chosen numbers ends m t certificate h e =
+    rw (e, judged)
+    (judges (chosen m (runs numbers ends)) t certificate (chosen-ascending m (runs numbers ends) (ascending (all-labelled numbers ends)))
+    (chosen-narrow numbers ends m (chosen-passed numbers ends m t e .few-runs)) h)
+
+-- And for all runs.
+pub accepts : (numbers ends : List ℕ) (t : ℕ) (certificate : List ℕ) → Fits 256 certificate → firstChecks numbers ends t ≡ passed
+    → Accepts (runs numbers ends) t certificate (check numbers ends t certificate)
+unfolding check judged
+accepts numbers ends t certificate h e =
+    rw (e, judged)
+    (judges (runs numbers ends) t certificate (ascending (all-labelled numbers ends))
+    (subst Narrow (every-run numbers ends) (chosen-narrow numbers ends (2 ^ length ends - 1) (first-passed numbers ends t e .few-runs))) h)

@@ -78,103 +78,123 @@ unfolding outcomeOf refusedBy
 outcome-refused es zero = refl
 outcome-refused es (suc n) = refl
 
--- Given a bound of each run's probes, an allowance no smaller than their sum is never spent.
-pub never-spent : {rs : List Run} {t : ℕ} → Fit rs t → (b : Run → ℕ) → ((r : Run) → List·Memᴰ r rs → probesIn (r .label) (wholeWalk t rs) ≤ b r)
-    → (allowance answers bytes : ℕ) → total b rs ≤ allowance → refusedBy (outcomeOf (cutWalk t rs allowance answers bytes)) ≢ 7
-unfolding cutWalk
-never-spent {rs} {t} g b h allowance answers bytes l e =
-    let s = sum-probes rs (wholeWalk t rs) (owned g (whole-walked g)) in
-    let k = total-le (λ r. probesIn (r .label) (wholeWalk t rs)) b rs h in
-    let room : Room = record { probes = allowance; answers = answers; bytes = bytes } in
-    cut-enough room (wholeWalk t rs) (omega arith) (sym (outcome-refused _ (cut room (wholeWalk t rs) .refused)) ∙ e)
+-- ---- a walk up to where it ends
 
--- the walk of a question, and what its buffers hold at the end
-module _ (rs : List Run) (t allowance : ℕ) (answers certificate : List ℕ) where
-  ended : Ended
-  ended = cutWalk t rs allowance (length answers) (length certificate)
+module _ (rs : List Run) (t : ℕ) (room : Room) where
+  abbrev ended : Ended
+  ended = cut room (wholeWalk t rs)
+
+  -- Given a bound of each run's probes, an allowance no smaller than their sum is never spent.
+  pub cut-unspent : Fit rs t → (b : Run → ℕ) → ((r : Run) → List·Memᴰ r rs → probesIn (r .label) (wholeWalk t rs) ≤ b r) → total b rs ≤ room .probes
+      → ended .refused ≢ 7
+  cut-unspent g b h l e =
+      let s = sum-probes rs (wholeWalk t rs) (owned g (whole-walked g)) in
+      let k = total-le (λ r. probesIn (r .label) (wholeWalk t rs)) b rs h in
+      cut-enough room (wholeWalk t rs) (omega arith) e
 
   parts-written : partsOf (ended .events) ≡ take (length (partsOf (ended .events))) (wholeCertificate t rs)
-  unfolding ended cutWalk wholeCertificate
-  parts-written = sym (cut-parts _ (wholeWalk t rs))
+  unfolding wholeCertificate
+  parts-written = sym (cut-parts room (wholeWalk t rs))
 
-  certificate-front : take (bytesIn (outcomeOf ended)) (over (encode (partsOf (ended .events))) certificate)
-      ≡ encode (take (partsIn (outcomeOf ended)) (wholeCertificate t rs))
-  unfolding over
-  certificate-front =
-      rw (outcome-bytes (ended .events) (ended .refused), outcome-parts (ended .events) (ended .refused), ← parts-written)
-      (take-append-seam (encode (partsOf (ended .events))) _)
+  pub all-parts : ended .refused ≡ 0 → partsOf (ended .events) ≡ wholeCertificate t rs
+  unfolding wholeCertificate
+  all-parts e = ap partsOf (cut-whole room (wholeWalk t rs) e)
 
-  answers-front : take (answersIn (outcomeOf ended)) (over (answersOf (partsOf (ended .events))) answers)
-      ≡ answersOf (take (partsIn (outcomeOf ended)) (wholeCertificate t rs))
-  unfolding over
-  answers-front =
-      rw (outcome-answers (ended .events) (ended .refused), outcome-parts (ended .events) (ended .refused), ← parts-written)
-      (take-append-seam (answersOf (partsOf (ended .events))) _)
-
-  whole-at-end : refusedBy (outcomeOf ended) ≡ 0 → partsIn (outcomeOf ended) ≡ length (wholeCertificate t rs)
-  unfolding ended cutWalk wholeCertificate
-  whole-at-end e =
-      outcome-parts (ended .events) (ended .refused)
-      ∙ ap (λ l. length (partsOf l)) (cut-whole _ (wholeWalk t rs) (sym (outcome-refused (ended .events) (ended .refused)) ∙ e))
-
-  all-parts : refusedBy (outcomeOf ended) ≡ 0 → take (partsIn (outcomeOf ended)) (wholeCertificate t rs) ≡ wholeCertificate t rs
-  all-parts e = ap (λ n. take n (wholeCertificate t rs)) (whole-at-end e) ∙ take-length (wholeCertificate t rs)
-
-  cut-bound : (r : Run) → probesIn (r .label) (ended .events) ≤ probesIn (r .label) (wholeWalk t rs)
-  unfolding ended cutWalk probesIn
-  cut-bound r = cut-cost (probeIn (r .label)) _ (wholeWalk t rs)
-
-  sum-made : Fit rs t → probesMade (outcomeOf ended) ≡ total (λ r. probesIn (r .label) (ended .events)) rs
-  unfolding ended cutWalk
-  sum-made g =
-      let o = owned g (whole-walked g) in
-      outcome-probes (ended .events) (ended .refused)
-      ∙ sym (sum-probes rs (ended .events) (record { each = λ e m. o .each e (cut-mem _ (wholeWalk t rs) e m) }))
-
-  few-parts : length (partsOf (ended .events)) ≤ length (wholeCertificate t rs)
-  unfolding ended cutWalk wholeCertificate
-  few-parts = cut-few _ (wholeWalk t rs)
-
-  certified-ended : Fit rs t
-      → Certified rs t (outcomeOf ended) (over (answersOf (partsOf (ended .events))) answers) (over (encode (partsOf (ended .events))) certificate)
-  certified-ended g =
+  pub certified-walk : Fit rs t
+      → Certified rs t (ended .refused) (length (partsOf (ended .events))) (answersOf (partsOf (ended .events))) (encode (partsOf (ended .events)))
+  certified-walk g =
       record {
-        exact = λ e. subst (Exact rs t) (sym (answers-front ∙ ap answersOf (all-parts e))) (exact g (whole-true g));
-        is-true = λ e. (wholeCertificate t rs, whole-true g, certificate-front ∙ ap encode (all-parts e));
-        at-the-end = whole-at-end;
+        exact = λ e. subst (Exact rs t) (ap answersOf (sym (all-parts e))) (exact g (whole-true g));
+        is-true = λ e. (wholeCertificate t rs, whole-true g, ap encode (all-parts e));
+        at-the-end = λ e. ap length (all-parts e);
         whole-exact = exact g (whole-true g);
         whole-true = whole-true g;
-        parts = certificate-front;
-        answered = answers-front;
+        written = ap encode parts-written;
+        answered = ap answersOf parts-written;
       }
 
-  bounded-ended : Fit rs t → (ps : List Part) → TrueCertificate rs t ps
-      → Bounded rs t allowance answers certificate (outcomeOf ended) (over (encode (partsOf (ended .events))) certificate) (length ps)
-  unfolding ended bound
-  bounded-ended g ps c =
+  -- the probes made are the sum over the runs
+  pub sum-made : Fit rs t → probesOf (ended .events) ≡ total (λ r. probesIn (r .label) (ended .events)) rs
+  sum-made g =
+      let o = owned g (whole-walked g) in
+      sym (sum-probes rs (ended .events) (record { each = λ e m. o .each e (cut-mem room (wholeWalk t rs) e m) }))
+
+  few-parts : length (partsOf (ended .events)) ≤ length (wholeCertificate t rs)
+  unfolding wholeCertificate
+  few-parts = cut-few room (wholeWalk t rs)
+
+  cut-bound : (r : Run) → probesIn (r .label) (ended .events) ≤ probesIn (r .label) (wholeWalk t rs)
+  unfolding probesIn
+  cut-bound r = cut-cost (probeIn (r .label)) room (wholeWalk t rs)
+
+  pub bounded-walk : Fit rs t → (ps : List Part) → TrueCertificate rs t ps
+      → Bounded rs t (room .probes) (ended .events) (ended .refused) (length (partsOf (ended .events))) (probesOf (ended .events))
+      (encode (partsOf (ended .events))) (length ps)
+  unfolding bound
+  bounded-walk g ps c =
       let f = whole-fewest g c in
       let b : (r : Run) → List·Memᴰ r rs → probesIn (r .label) (wholeWalk t rs) ≤ boundIn (length ps) r = λ r m. whole-bound g (length ps) r m (omega arith) in
-      let p = outcome-parts (ended .events) (ended .refused) in
       let n = few-parts in
       record {
         fewest = f;
-        written = certificate-front;
+        written = ap encode parts-written;
         few = omega arith;
         each-whole = b;
         each = λ r m. le-trans (cut-bound r) (b r m);
         sum = sum-made g;
-        enough = never-spent g (boundIn (length ps)) b allowance (length answers) (length certificate);
+        enough = cut-unspent g (boundIn (length ps)) b;
       }
+
+-- ---- the question
+
+pub never-spent : {rs : List Run} {t : ℕ} → Fit rs t → (b : Run → ℕ) → ((r : Run) → List·Memᴰ r rs → probesIn (r .label) (wholeWalk t rs) ≤ b r)
+    → (allowance answers bytes : ℕ) → total b rs ≤ allowance → refusedBy (outcomeOf (cutWalk t rs allowance answers bytes)) ≢ 7
+unfolding cutWalk
+never-spent {rs} {t} g b h allowance answers bytes l e =
+    let room : Room = record { probes = allowance; answers = answers; bytes = bytes } in
+    cut-unspent rs t room g b h l (sym (outcome-refused _ (cut room (wholeWalk t rs) .refused)) ∙ e)
+
+module _ (rs : List Run) (t allowance : ℕ) (answers certificate : List ℕ) where
+  asked : Ended
+  asked = cutWalk t rs allowance (length answers) (length certificate)
+
+  answers-front : take (answersIn (outcomeOf asked)) (over (answersOf (partsOf (asked .events))) answers) ≡ answersOf (partsOf (asked .events))
+  unfolding over
+  answers-front =
+      rw (outcome-answers (asked .events) (asked .refused)) (take-append-seam (answersOf (partsOf (asked .events))) _)
+
+  certificate-front : take (bytesIn (outcomeOf asked)) (over (encode (partsOf (asked .events))) certificate) ≡ encode (partsOf (asked .events))
+  unfolding over
+  certificate-front =
+      rw (outcome-bytes (asked .events) (asked .refused)) (take-append-seam (encode (partsOf (asked .events))) _)
+
+  certified-asked : Fit rs t
+      → Certified rs t (refusedBy (outcomeOf asked)) (partsIn (outcomeOf asked))
+      (take (answersIn (outcomeOf asked)) (over (answersOf (partsOf (asked .events))) answers))
+      (take (bytesIn (outcomeOf asked)) (over (encode (partsOf (asked .events))) certificate))
+  unfolding asked cutWalk
+  certified-asked g =
+      rw (answers-front, certificate-front, outcome-refused (asked .events) (asked .refused), outcome-parts (asked .events) (asked .refused))
+      (certified-walk rs t (record { probes = allowance; answers = length answers; bytes = length certificate }) g)
+
+  bounded-asked : Fit rs t → (ps : List Part) → TrueCertificate rs t ps
+      → Bounded rs t allowance (asked .events) (refusedBy (outcomeOf asked)) (partsIn (outcomeOf asked)) (probesMade (outcomeOf asked))
+      (take (bytesIn (outcomeOf asked)) (over (encode (partsOf (asked .events))) certificate)) (length ps)
+  unfolding asked cutWalk
+  bounded-asked g ps c =
+      rw (certificate-front, outcome-refused (asked .events) (asked .refused), outcome-parts (asked .events) (asked .refused),
+      outcome-probes (asked .events) (asked .refused))
+      (bounded-walk rs t (record { probes = allowance; answers = length answers; bytes = length certificate }) g ps c)
 
 -- a question whose first checks pass is its ended walk
 query-passed : (numbers ends : List ℕ) (t allowance : ℕ) (answers certificate : List ℕ) → firstChecks numbers ends t ≡ passed
     → query numbers ends t allowance answers certificate
     ≡ record {
-      outcome = outcomeOf (ended (runs numbers ends) t allowance answers certificate);
-      answers = over (answersOf (partsOf (ended (runs numbers ends) t allowance answers certificate .events))) answers;
-      certificate = over (encode (partsOf (ended (runs numbers ends) t allowance answers certificate .events))) certificate;
+      outcome = outcomeOf (asked (runs numbers ends) t allowance answers certificate);
+      answers = over (answersOf (partsOf (asked (runs numbers ends) t allowance answers certificate .events))) answers;
+      certificate = over (encode (partsOf (asked (runs numbers ends) t allowance answers certificate .events))) certificate;
     }
-unfolding query ended
+unfolding query asked
 query-passed numbers ends t allowance answers certificate e = rw (e, query)
 
 pub demand2 : (numbers ends : List ℕ) (t allowance : ℕ) (answers certificate : List ℕ) → Fits pastBin numbers
@@ -184,15 +204,16 @@ demand2 numbers ends t allowance answers certificate h =
     record {
       for-every = λ e.
           rw (query-passed numbers ends t allowance answers certificate e)
-          (certified-ended (runs numbers ends) t allowance answers certificate (fit numbers ends t h e));
+          (certified-asked (runs numbers ends) t allowance answers certificate (fit numbers ends t h e));
     }
 
 pub demand3 : (numbers ends : List ℕ) (t allowance : ℕ) (answers certificate : List ℕ) → Fits pastBin numbers
     → Demand3 numbers ends t allowance answers certificate (query numbers ends t allowance answers certificate .outcome)
     (query numbers ends t allowance answers certificate .certificate)
+unfolding asked
 demand3 numbers ends t allowance answers certificate h =
     record {
       for-every = λ e ps c.
           rw (query-passed numbers ends t allowance answers certificate e)
-          (bounded-ended (runs numbers ends) t allowance answers certificate (fit numbers ends t h e) ps c);
+          (bounded-asked (runs numbers ends) t allowance answers certificate (fit numbers ends t h e) ps c);
     }

@@ -14,7 +14,7 @@ use native.Mathlib.Omega.{arith}
 use Rattle.model.specs.Certificate.{Part, answer, gap, answersOf, sizeOf}
 use Rattle.model.specs.Compared.{wholeWalk, partsOf}
 use Rattle.model.specs.Demands.{Fits, refusedBy}
-use Rattle.model.specs.Refusals.{Check, passed, refusal, _then_, refuseIf, refuseAt, fallsFrom, lastEnd, firstChecks, Room, met, after, cut, cutWalk, refused, outcomeOf, query}
+use Rattle.model.specs.Refusals.{Check, passed, refusal, _then_, refuseIf, refuseAt, fallsFrom, lastEnd, countCheck, thresholdCheck, listChecks, firstChecks, Room, met, after, cut, cutWalk, refused, outcomeOf, query}
 use Rattle.model.specs.Runs.{Run, firstBin, pastBin, runsFrom, runs, total, one, count}
 use Rattle.model.specs.Walk.{Event, sought, doubled, halved, wrote, headOf, head}
 use Rattle.model.proofs.Count.{total-le, total-add, count-map, count-le}
@@ -198,7 +198,7 @@ door-at n (some p) h k = record { numbers = λ m q e. let i : n ≡ m = cc in (o
 door-at n none h k = record { numbers = λ m q e. absurd (let z : _≡_ {A = ℕ} 0 1 = cc in omega arith) }
 
 door : (numbers ends : List ℕ) (t : ℕ) → Door (firstChecks numbers ends t)
-unfolding firstChecks
+unfolding firstChecks countCheck thresholdCheck listChecks
 door numbers ends t =
     door-then _ _ (door-if _ 1 _ (omega arith) (omega arith))
     (door-then _ _ (door-if _ 2 _ (omega arith) (omega arith))
@@ -231,9 +231,9 @@ module _ (numbers ends : List ℕ) (t allowance : ℕ) (answers certificate : Li
       let g = fit numbers ends t bins e in
       let p = first-passed numbers ends t e in
       let k = walk-needs (g .some) (whole-walked g) in
-      let n = runs-numbers 0 0 0 numbers ends (p .ends-rise) in
+      let n = runs-numbers 0 0 0 numbers ends (p .lists .ends-rise) in
       let l = left-most firstBin (runs numbers ends) in
-      let z = p .ends-last in
+      let z = p .lists .ends-last in
       cut-roomy _ (wholeWalk t (runs numbers ends)) (omega (arith, k .answers)) (omega (arith, k .bytes))
 
   -- A question that passes the first checks is accepted or refused as 7: refusals 5 and 6 never occur.

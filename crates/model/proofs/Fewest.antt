@@ -20,7 +20,7 @@ use Rattle.model.proofs.Events.{parts-wrote, parts-nil, parts-round}
 use Rattle.model.specs.Rows.{from, equal}
 use Rattle.model.proofs.From.{rise-from, from-mem, head-mem, head-least}
 use Rattle.model.proofs.Heads.{atMost}
-use Rattle.model.proofs.Masks.{only-below, ones-names}
+use Rattle.model.proofs.Masks.{ones-names}
 use Rattle.model.proofs.Tests.{both, lt-or-le}
 use Rattle.model.proofs.Truth.{Fit}
 use Rattle.model.proofs.Walking.{fromRun, at, head-from, gapAt, answerAt, Walked, over, stop, pass, hit, hit-here}
@@ -40,14 +40,14 @@ covers-rest (covers e l c) = c
 -- the runs that a true gap names are at least k − t + 1
 pub gap-names : {rs : List Run} {t f l m : ℕ} → Fit rs t → TrueGap rs t f l m → length rs < t + count (names m) rs
 gap-names {rs} {m = m} g p =
-    let e = ones-names m rs (g .labels) (only-below m (length rs) (p .only)) in
+    let e = ones-names m rs (g .labels) (p .only) in
     let n = p .enough in
     let k = g .runs in
     omega arith
 
 pub answer-names : {rs : List Run} {t v m : ℕ} → Fit rs t → TrueAnswer rs t v m → t ≤ count (names m) rs
 answer-names {rs} {m = m} g p =
-    let e = ones-names m rs (g .labels) (only-below m (length rs) (p .only)) in
+    let e = ones-names m rs (g .labels) (p .only) in
     let n = p .enough in
     omega arith
 

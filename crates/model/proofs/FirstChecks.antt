@@ -1,20 +1,25 @@
--- Lists and a threshold that pass the first checks: the runs rise, are labelled from 0 on, and can meet the threshold; their number is at most 64.
+-- Lists and a threshold that pass the first checks: the runs rise, are labelled from 0 on, and can meet the threshold; their number is at most 64. So it is
+-- for the runs that a mask chooses, of which all runs are a case.
 -- Assumes nothing.
-use Prim.Native.Nat.{ℕ, zero, suc, _+_, _-_, _≤_, _<_}
-use borrow.Author.Tests.{ltb-true, ltb-false, eqb-false, lt-ltb, le-ltb}
+use Prim.Native.Nat.{ℕ, zero, suc, _+_, _-_, _/_, _^_, _≤_, _<_}
+use borrow.Author.Tests.{ltb-true, ltb-false, eqb-false, lt-ltb, le-ltb, eq-eqb, ne-eqb}
+use lib.Count.{ones, ones-ones}
 use lib.Dec.{ltb, eqb}
 use lib.ListN.{length, getD, take, drop}
 use mathlib.Core.Bool.{Bool, true, false, _||_, not}
 use mathlib.Core.List.{List, [], _∷_, List·Memᴰ, List·Memᴰ·head, List·Memᴰ·tail, List·Memᴰ·not-nil, List·Memᴰ·cases-cons}
 use mathlib.Core.Logic.{⊎-elim, _⊎_, inl, inr, _≢_}
 use mathlib.Core.Option.{Option, none, some}
-use mathlib.Core.Path.{_≡_, refl, sym, ap, _∙_}
+use lib.Pow.{pow-pos, pow-lt}
+use mathlib.Core.Path.{_≡_, refl, sym, ap, _∙_, subst}
+use native.Mathlib.Nat.{div-eq-of-lt, div-lt-iff-lt-mul, one-mul}
 use native.Mathlib.Omega.{arith}
 use Rattle.model.specs.Demands.{Fits}
-use Rattle.model.specs.Refusals.{Check, passed, refusal, _then_, refuseIf, refuseAt, fallsFrom, lastEnd, unrisenIn, firstChecks}
-use Rattle.model.specs.Runs.{Run, pastBin, runsFrom, runs, unrisenAfter, unrisen, mostNumbers, mostRuns}
+use Rattle.model.specs.Refusals.{Check, passed, refusal, _then_, refuseIf, refuseAt, fallsFrom, lastEnd, unrisenIn, countCheck, thresholdCheck, listChecks, maskCheck, firstChecks, chosenChecks}
+use Rattle.model.specs.Runs.{Run, pastBin, runsFrom, runs, chosen, unrisenAfter, unrisen, mostNumbers, mostRuns}
 use Rattle.model.specs.Rows.{Rise, rise-nil, rise-cons}
-use Rattle.model.proofs.Masks.{Labelled, labelled-nil, labelled-cons}
+use Rattle.model.proofs.Masks.{Labelled, labelled-nil, labelled-cons, ascending}
+use Rattle.model.proofs.Chosen.{chosen-ascending, chosen-rising, chosen-all, ones-chosen}
 use Rattle.model.proofs.Tests.{lt-or-le, or-false}
 use Rattle.model.proofs.Truth.{Fit}
 use Rattle.model.proofs.Walking.{Rising}
@@ -137,12 +142,8 @@ fits w (y ∷ s) h =
           ⊎-elim (λ (e : x ≡ y). rw e (h 0)) (λ n. fits w s (λ i. h (suc i)) .each x n) (List·Memᴰ·cases-cons m);
     }
 
--- What the first checks give.
-pub record Passed (numbers ends : List ℕ) (t : ℕ) : Type 0 where
-  pub some-runs : 0 < length ends
-  pub few-runs : length ends ≤ mostRuns
-  pub threshold : 0 < t
-  pub met : t ≤ length ends
+-- What the first checks give, piece by piece.
+pub record Listed (numbers ends : List ℕ) : Type 0 where
   pub ends-rise : fallsFrom 0 0 ends ≡ none
   pub ends-last : lastEnd 0 ends ≡ length numbers
   pub few-numbers : length numbers ≤ mostNumbers
@@ -151,42 +152,145 @@ pub record Passed (numbers ends : List ℕ) (t : ℕ) : Type 0 where
 eqb-not : (a b : ℕ) → not (eqb a b) ≡ false → a ≡ b
 eqb-not a b e = borrow.Author.Tests.eqb-true a b (borrow.Author.Tests.not-false (eqb a b) e)
 
-pub first-passed : (numbers ends : List ℕ) (t : ℕ) → firstChecks numbers ends t ≡ passed → Passed numbers ends t
-unfolding firstChecks
-first-passed numbers ends t e =
-    let c₁ = refuse-if _ 1 (length ends) (then-first _ _ e) in
-    let e₂ = then-second _ _ e in
-    let c₂ = refuse-if _ 2 t (then-first _ _ e₂) in
-    let e₃ = then-second _ _ e₂ in
-    let c₃ = refuse-at 3 (fallsFrom 0 0 ends) (then-first _ _ e₃) in
-    let e₄ = then-second _ _ e₃ in
+pub count-passed : (ends : List ℕ) → countCheck ends ≡ passed → (0 < length ends) × (length ends ≤ mostRuns)
+unfolding countCheck
+count-passed ends e =
+    let d = or-false (eqb (length ends) 0) (ltb mostRuns (length ends)) (refuse-if _ 1 (length ends) e) in
+    let n : length ends ≢ 0 = eqb-false (length ends) 0 (d .0) in
+    (omega arith, ltb-false mostRuns (length ends) (d .1))
+
+pub threshold-passed : (k t place : ℕ) → thresholdCheck k t place ≡ passed → (0 < t) × (t ≤ k)
+unfolding thresholdCheck
+threshold-passed k t place e =
+    let d = or-false (eqb t 0) (ltb k t) (refuse-if _ 2 place e) in
+    let n : t ≢ 0 = eqb-false t 0 (d .0) in
+    (omega arith, ltb-false k t (d .1))
+
+pub mask-passed : (k m place : ℕ) → maskCheck k m place ≡ passed → (0 < m) × (m < 2 ^ k)
+unfolding maskCheck
+mask-passed k m place e =
+    let d = or-false (eqb m 0) (not (eqb (m / 2 ^ k) 0)) (refuse-if _ 13 place e) in
+    let n : m ≢ 0 = eqb-false m 0 (d .0) in
+    let z = eqb-not (m / 2 ^ k) 0 (d .1) in
+    let i = div-lt-iff-lt-mul {x = m} {y = 1} (pow-pos k) .0 (omega arith) in
+    (omega arith, omega (arith, one-mul (2 ^ k)))
+
+pub lists-passed : (numbers ends : List ℕ) → listChecks numbers ends ≡ passed → Listed numbers ends
+unfolding listChecks
+lists-passed numbers ends e =
+    let c₃ = refuse-at 3 (fallsFrom 0 0 ends) (then-first _ _ e) in
+    let e₄ = then-second _ _ e in
     let c₄ = refuse-if _ 3 (length ends) (then-first _ _ e₄) in
     let c₅ = refuse-at 4 (unrisenIn 0 (runs numbers ends)) (then-second _ _ e₄) in
-    let d₁ = or-false (eqb (length ends) 0) (ltb mostRuns (length ends)) c₁ in
-    let d₂ = or-false (eqb t 0) (ltb (length ends) t) c₂ in
     let d₄ = or-false (not (eqb (lastEnd 0 ends) (length numbers))) (ltb mostNumbers (length numbers)) c₄ in
-    let n₁ : length ends ≢ 0 = eqb-false (length ends) 0 (d₁ .0) in
-    let n₂ : t ≢ 0 = eqb-false t 0 (d₂ .0) in
     record {
-      some-runs = omega arith;
-      few-runs = ltb-false mostRuns (length ends) (d₁ .1);
-      threshold = omega arith;
-      met = ltb-false (length ends) t (d₂ .1);
       ends-rise = c₃;
       ends-last = eqb-not (lastEnd 0 ends) (length numbers) (d₄ .0);
       few-numbers = ltb-false mostNumbers (length numbers) (d₄ .1);
       numbers-rise = c₅;
     }
 
-pub fit : (numbers ends : List ℕ) (t : ℕ) → Fits pastBin numbers → firstChecks numbers ends t ≡ passed → Fit (runs numbers ends) t
-unfolding runs
-fit numbers ends t h e =
-    let p = first-passed numbers ends t e in
-    let n = runs-length 0 0 numbers ends in
-    let k = p .met in
+-- and the other way round
+pub threshold-passes : (k t place : ℕ) → 0 < t → t ≤ k → thresholdCheck k t place ≡ passed
+unfolding thresholdCheck refuseIf
+threshold-passes k t place h l = let n : t ≢ 0 = omega arith in rw (ne-eqb t 0 n, le-ltb k t l)
+
+pub mask-passes : (k m place : ℕ) → 0 < m → m < 2 ^ k → maskCheck k m place ≡ passed
+unfolding maskCheck refuseIf
+mask-passes k m place h l = let n : m ≢ 0 = omega arith in rw (ne-eqb m 0 n, eq-eqb (m / 2 ^ k) 0 (div-eq-of-lt l))
+
+-- Lists and a threshold that pass the first checks.
+pub record Passed (numbers ends : List ℕ) (t : ℕ) : Type 0 where
+  pub some-runs : 0 < length ends
+  pub few-runs : length ends ≤ mostRuns
+  pub threshold : 0 < t
+  pub met : t ≤ length ends
+  pub lists : Listed numbers ends
+
+pub first-passed : (numbers ends : List ℕ) (t : ℕ) → firstChecks numbers ends t ≡ passed → Passed numbers ends t
+unfolding firstChecks
+first-passed numbers ends t e =
+    let c = count-passed ends (then-first _ _ e) in
+    let e₂ = then-second _ _ e in
+    let h = threshold-passed (length ends) t t (then-first _ _ e₂) in
+    record { some-runs = c .0; few-runs = c .1; threshold = h .0; met = h .1; lists = lists-passed numbers ends (then-second _ _ e₂) }
+
+-- The same with a mask that chooses runs.
+pub record ChosenPassed (numbers ends : List ℕ) (m t : ℕ) : Type 0 where
+  pub some-runs : 0 < length ends
+  pub few-runs : length ends ≤ mostRuns
+  pub some-chosen : 0 < m
+  pub only : m < 2 ^ length ends
+  pub threshold : 0 < t
+  pub met : t ≤ ones m
+  pub lists : Listed numbers ends
+
+pub chosen-passed : (numbers ends : List ℕ) (m t : ℕ) → chosenChecks numbers ends m t ≡ passed → ChosenPassed numbers ends m t
+unfolding chosenChecks
+chosen-passed numbers ends m t e =
+    let c = count-passed ends (then-first _ _ e) in
+    let e₂ = then-second _ _ e in
+    let d = mask-passed (length ends) m 0 (then-first _ _ e₂) in
+    let e₃ = then-second _ _ e₂ in
+    let h = threshold-passed (ones m) t t (then-first _ _ e₃) in
     record {
-      rising = all-risen 0 (runsFrom 0 0 numbers ends) (p .numbers-rise) (λ r m. runs-fit pastBin 0 0 numbers ends h r m);
-      labels = runs-labelled 0 0 numbers ends;
+      some-runs = c .0;
+      few-runs = c .1;
+      some-chosen = d .0;
+      only = d .1;
+      threshold = h .0;
+      met = h .1;
+      lists = lists-passed numbers ends (then-second _ _ e₃);
+    }
+
+-- all checks of it, from the pieces
+pub chosen-checks : (numbers ends : List ℕ) (m t : ℕ) → countCheck ends ≡ passed → listChecks numbers ends ≡ passed → 0 < m → m < 2 ^ length ends
+    → 0 < t → t ≤ ones m → chosenChecks numbers ends m t ≡ passed
+unfolding chosenChecks _then_
+chosen-checks numbers ends m t c l h o p q =
+    rw (c, mask-passes (length ends) m 0 h o, threshold-passes (ones m) t t p q, l)
+
+-- A question over all runs is the one in which all are chosen.
+pub all-chosen-checks : (numbers ends : List ℕ) (t : ℕ) → firstChecks numbers ends t ≡ passed → chosenChecks numbers ends (2 ^ length ends - 1) t ≡ passed
+unfolding firstChecks
+all-chosen-checks numbers ends t e =
+    let p = first-passed numbers ends t e in
+    let h = p .some-runs in
+    let k = p .met in
+    let i = pow-lt h in
+    let n = ones-ones (length ends) in
+    chosen-checks numbers ends (2 ^ length ends - 1) t (then-first _ _ e) (then-second _ _ (then-second _ _ e)) (omega arith) (omega arith) (p .threshold) (omega arith)
+
+pub runs-rising : (numbers ends : List ℕ) → Fits pastBin numbers → Listed numbers ends → Rising (runs numbers ends)
+unfolding runs
+runs-rising numbers ends h p = all-risen 0 (runsFrom 0 0 numbers ends) (p .numbers-rise) (λ r m. runs-fit pastBin 0 0 numbers ends h r m)
+
+pub all-labelled : (numbers ends : List ℕ) → Labelled 0 (runs numbers ends)
+unfolding runs
+all-labelled numbers ends = runs-labelled 0 0 numbers ends
+
+pub all-length : (numbers ends : List ℕ) → length (runs numbers ends) ≡ length ends
+unfolding runs
+all-length numbers ends = runs-length 0 0 numbers ends
+
+pub chosen-fit : (numbers ends : List ℕ) (m t : ℕ) → Fits pastBin numbers → chosenChecks numbers ends m t ≡ passed → Fit (chosen m (runs numbers ends)) t
+chosen-fit numbers ends m t h e =
+    let p = chosen-passed numbers ends m t e in
+    let n = all-length numbers ends in
+    let l = all-labelled numbers ends in
+    let k = ones-chosen m (runs numbers ends) l (subst (λ x. m < 2 ^ x) (sym n) (p .only)) in
+    let q = p .met in
+    record {
+      rising = chosen-rising m (runs numbers ends) (runs-rising numbers ends h (p .lists));
+      labels = chosen-ascending m (runs numbers ends) (ascending l);
       some = p .threshold;
       runs = omega arith;
     }
+
+pub every-run : (numbers ends : List ℕ) → chosen (2 ^ length ends - 1) (runs numbers ends) ≡ runs numbers ends
+every-run numbers ends =
+    ap (λ x. chosen (2 ^ x - 1) (runs numbers ends)) (sym (all-length numbers ends)) ∙ chosen-all (runs numbers ends) (all-labelled numbers ends)
+
+pub fit : (numbers ends : List ℕ) (t : ℕ) → Fits pastBin numbers → firstChecks numbers ends t ≡ passed → Fit (runs numbers ends) t
+fit numbers ends t h e =
+    subst (λ x. Fit x t) (every-run numbers ends) (chosen-fit numbers ends (2 ^ length ends - 1) t h (all-chosen-checks numbers ends t e))

@@ -1,6 +1,7 @@
 pub mod Allowance
 pub mod Bounds
 pub mod Checking
+pub mod Chosen
 pub mod Count
 pub mod Cutting
 pub mod Demands

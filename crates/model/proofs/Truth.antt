@@ -10,7 +10,7 @@ use mathlib.Core.List.{List, [], _∷_, _++_, List·Memᴰ, List·Memᴰ·head, 
 use mathlib.Core.Logic.{⊎-elim}
 use mathlib.Core.Path.{_≡_, refl, sym, ap, _∙_, subst}
 use native.Mathlib.Omega.{arith}
-use Rattle.model.specs.Certificate.{Part, firstOf, lastOf, Covers, covered, covers, TrueGap, TrueAnswer, TruePart, gap-true, answer-true}
+use Rattle.model.specs.Certificate.{Part, firstOf, lastOf, Covers, covered, covers, NamesOnly, TrueGap, TrueAnswer, TruePart, gap-true, answer-true}
 use Rattle.model.specs.Compared.{partsOf}
 use Rattle.model.specs.Runs.{Run, lastBin, pastBin, mask, names}
 use Rattle.model.specs.Walk.{Event, head, headOf, wrote}
@@ -18,34 +18,38 @@ use Rattle.model.proofs.Count.{count-not}
 use Rattle.model.proofs.Events.{parts-wrote, parts-nil, parts-round}
 use Rattle.model.specs.Rows.{from, below, equal}
 use Rattle.model.proofs.From.{rise-from, mem-from, from-mem, head-below-mem, head-mem}
-use Rattle.model.proofs.Masks.{Labelled, labelled-nil, labelled-cons, below-only, mask-only, ones-mask, names-mask}
+use Rattle.model.proofs.Masks.{Ascending, ascending-nil, ascending-cons, mask-bit, ones-mask, names-mask}
 use Rattle.model.proofs.Tests.{lt-or-le}
-use Rattle.model.proofs.Walking.{Rising, fromRun, at, at-length, head-from, past-last, gapAt, answerAt, Walked, over, stop, pass, hit, hit-here}
+use Rattle.model.proofs.Walking.{Rising, map-mem, fromRun, at, at-length, head-from, past-last, gapAt, answerAt, Walked, over, stop, pass, hit, hit-here}
 
--- runs that rise, labelled from 0 on, with a threshold that they can meet
+-- runs that rise, their labels too, with a threshold that they can meet
 pub record Fit (rs : List Run) (t : ℕ) : Type 0 where
   pub rising : Rising rs
-  pub labels : Labelled 0 rs
+  pub labels : Ascending 0 rs
   pub some : 0 < t
   pub runs : t ≤ length rs
 
-pub labelled-at : (f : ℕ) {a : ℕ} {rs : List Run} → Labelled a rs → Labelled a (at f rs)
+pub ascending-at : (f : ℕ) {a : ℕ} {rs : List Run} → Ascending a rs → Ascending a (at f rs)
 unfolding at fromRun
-labelled-at f labelled-nil = labelled-nil
-labelled-at f (labelled-cons e l) = labelled-cons e (labelled-at f l)
+ascending-at f ascending-nil = ascending-nil
+ascending-at f (ascending-cons e l) = ascending-cons e (ascending-at f l)
 
 pub mem-at : (f : ℕ) {rs : List Run} {r : Run} → List·Memᴰ r rs → List·Memᴰ (fromRun f r) (at f rs)
 unfolding at
 mem-at f (List·Memᴰ·head e) = List·Memᴰ·head (ap (fromRun f) e)
 mem-at f (List·Memᴰ·tail m) = List·Memᴰ·tail (mem-at f m)
 
--- what the mask of a test at a floor says of a run
-named : (p : Run → Bool) (f : ℕ) (rs : List Run) → Labelled 0 rs → (r : Run) → List·Memᴰ r rs → names (mask p (at f rs)) r ≡ p (fromRun f r)
+-- what the mask of a test at a floor says of a run, and that it names no others
+named : (p : Run → Bool) (f : ℕ) (rs : List Run) → Ascending 0 rs → (r : Run) → List·Memᴰ r rs → names (mask p (at f rs)) r ≡ p (fromRun f r)
 unfolding names fromRun
-named p f rs l r m = names-mask p 0 (at f rs) (labelled-at f l) (fromRun f r) (mem-at f m)
+named p f rs l r m = names-mask p (at f rs) (ascending-at f l) (fromRun f r) (mem-at f m)
 
-pub only-at : (p : Run → Bool) (f : ℕ) (rs : List Run) → Labelled 0 rs → mask p (at f rs) < 2 ^ length rs
-only-at p f rs l = subst (λ (n : ℕ). mask p (at f rs) < 2 ^ n) (at-length f rs) (mask-only p (at f rs) (labelled-at f l))
+only-at : (p : Run → Bool) (f : ℕ) (rs : List Run) → Ascending 0 rs → NamesOnly (mask p (at f rs)) rs
+unfolding at fromRun
+only-at p f rs l i e =
+    let t = mask-bit p (at f rs) (ascending-at f l) i e in
+    let s = map-mem (fromRun f) rs (t .0) (t .1) in
+    (s .0, s .1, sym (ap (λ (x : Run). x .label) (s .2)) ∙ t .2)
 
 pub not-below : (h v : ℕ) → leb v h ≡ not (ltb h v)
 not-below h v =
@@ -59,9 +63,9 @@ unfolding below
 gap-is-true rs t f v last g few l =
     let size = at-length f rs in
     let split = count-not (λ r. ltb (head r) v) (λ r. leb v (head r)) (at f rs) (λ r m. not-below (head r) v) in
-    let num = ones-mask (λ r. leb v (head r)) (at f rs) (labelled-at f (g .labels)) in
+    let num = ones-mask (λ r. leb v (head r)) (at f rs) (ascending-at f (g .labels)) in
     record {
-      only = λ i e. below-only (mask (λ r. leb v (head r)) (at f rs)) (length rs) i (only-at _ f rs (g .labels)) e;
+      only = only-at _ f rs (g .labels);
       enough = omega arith;
       misses = λ r m e x n h k.
           let high : v ≤ head (fromRun f r) = leb-true v _ (sym (named (λ s. leb v (head s)) f rs (g .labels) r m) ∙ e) in
@@ -74,9 +78,9 @@ pub answer-is-true : (rs : List Run) (t v : ℕ) → Fit rs t → v < pastBin �
     → TrueAnswer rs t v (mask (λ r. eqb (head r) v) (at v rs))
 unfolding equal
 answer-is-true rs t v g b h =
-    let num = ones-mask (λ r. eqb (head r) v) (at v rs) (labelled-at v (g .labels)) in
+    let num = ones-mask (λ r. eqb (head r) v) (at v rs) (ascending-at v (g .labels)) in
     record {
-      only = λ i e. below-only (mask (λ r. eqb (head r) v) (at v rs)) (length rs) i (only-at _ v rs (g .labels)) e;
+      only = only-at _ v rs (g .labels);
       enough = omega arith;
       has = λ r m e.
           let same : headOf (from v (r .bins)) ≡ v =

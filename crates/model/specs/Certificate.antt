@@ -85,15 +85,19 @@ pub data Covers : ℕ → List Part → Type 0 where
   covered : {b : ℕ} → b ≡ pastBin → Covers b []
   covers : {b : ℕ} {p : Part} {ps : List Part} → firstOf p ≡ b → firstOf p ≤ lastOf p → Covers (suc (lastOf p)) ps → Covers b (p ∷ ps)
 
--- Every mask names only runs below k, a gap names at least k − t + 1 runs and none of these has a number in it.
+-- a mask names only runs of these
+abbrev pub NamesOnly : ℕ → List Run → Type 0
+NamesOnly m rs = (i : ℕ) → bit m i ≡ 1 → (r : Run) × List·Memᴰ r rs × (r .label ≡ i)
+
+-- Of k runs, every mask names only these, a gap names at least k − t + 1 of them and none that it names has a number in it.
 pub record TrueGap (rs : List Run) (t first last m : ℕ) : Type 0 where
-  pub only : (i : ℕ) → bit m i ≡ 1 → i < length rs
+  pub only : NamesOnly m rs
   pub enough : length rs - t + 1 ≤ ones m
   pub misses : (r : Run) → List·Memᴰ r rs → names m r ≡ true → (x : ℕ) → List·Memᴰ x (r .bins) → first ≤ x → x ≤ last → ⊥
 
 -- An answer names at least t runs and each of these has it.
 pub record TrueAnswer (rs : List Run) (t value m : ℕ) : Type 0 where
-  pub only : (i : ℕ) → bit m i ≡ 1 → i < length rs
+  pub only : NamesOnly m rs
   pub enough : t ≤ ones m
   pub has : (r : Run) → List·Memᴰ r rs → names m r ≡ true → List·Memᴰ value (r .bins)
 

@@ -9,6 +9,7 @@ use Rattle.model.specs.Certificate.{Part, answersOf, encode, TrueCertifi
 use Rattle.model.specs.Compared.{wholeWalk, wholeCertificate, probesIn, boundIn, bound}
 use Rattle.model.specs.Refusals.{passed, firstChecks, cutWalk, Outcome, accepted, refused, Verdict, valid}
 use Rattle.model.specs.Runs.{Run, runs, unrisen, holds, total, count}
+use Rattle.model.specs.Walk.{Event}
 
 -- A lent row of 32-bit numbers, a lent row of bytes: each of its numbers is below w.
 pub record Fits (w : ℕ) (row : List ℕ) : Type 0 where
@@ -45,20 +46,22 @@ pub record Exact (rs : List Run) (t : ℕ) (answers : List ℕ) : Type 0 where
 abbrev pub TrueBytes : List Run → ℕ → List ℕ → Type 0
 TrueBytes rs t bytes = (ps : List Part) × TrueCertificate rs t ps × (bytes ≡ encode ps)
 
--- Demand 2 for a question. When a walk reaches its end, the answers are all the bins held by at least t lists, and no others, rising, each once. The
--- certificate beside them is true. A walk that stops early has written the first parts of that same certificate and
--- their answers.
-pub record Certified (rs : List Run) (t : ℕ) (o : Outcome) (answers certificate : List ℕ) : Type 0 where
-  pub exact : refusedBy o ≡ 0 → Exact rs t (take (answersIn o) answers)
-  pub is-true : refusedBy o ≡ 0 → TrueBytes rs t (take (bytesIn o) certificate)
-  pub at-the-end : refusedBy o ≡ 0 → partsIn o ≡ length (wholeCertificate t rs)
+-- Demand 2 for a walk, which a refusal of this number ended, 0 where none did, after so many parts, and which wrote these answers and bytes. When it reaches
+-- its end, the answers are all the bins held by at least t lists, and no others, rising, each once. The certificate beside them is true. A walk that stops
+-- early has written the first parts of that same certificate and their answers.
+pub record Certified (rs : List Run) (t number parts : ℕ) (answers bytes : List ℕ) : Type 0 where
+  pub exact : number ≡ 0 → Exact rs t answers
+  pub is-true : number ≡ 0 → TrueBytes rs t bytes
+  pub at-the-end : number ≡ 0 → parts ≡ length (wholeCertificate t rs)
   pub whole-exact : Exact rs t (answersOf (wholeCertificate t rs))
   pub whole-true : TrueCertificate rs t (wholeCertificate t rs)
-  pub parts : take (bytesIn o) certificate ≡ encode (take (partsIn o) (wholeCertificate t rs))
-  pub answered : take (answersIn o) answers ≡ answersOf (take (partsIn o) (wholeCertificate t rs))
+  pub written : bytes ≡ encode (take parts (wholeCertificate t rs))
+  pub answered : answers ≡ answersOf (take parts (wholeCertificate t rs))
 
+-- Demand 2 for a question: of its outcome, and of what then stands in its buffers.
 pub record Demand2 (numbers ends : List ℕ) (t : ℕ) (o : Outcome) (answers certificate : List ℕ) : Type 0 where
-  pub for-every : firstChecks numbers ends t ≡ passed → Certified (runs numbers ends) t o answers certificate
+  pub for-every : firstChecks numbers ends t ≡ passed
+      → Certified (runs numbers ends) t (refusedBy o) (partsIn o) (take (answersIn o) answers) (take (bytesIn o) certificate)
 
 -- Demand 2 for the checker: it accepts a certificate, whoever wrote it, if it is true and only then; the counts are the certificate's.
 pub record Accepts (rs : List Run) (t : ℕ) (certificate : List ℕ) (v : Verdict) : Type 0 where
@@ -66,22 +69,22 @@ pub record Accepts (rs : List Run) (t : ℕ) (certificate : List ℕ) (v : Verdi
       → (ps : List Part) × TrueCertificate rs t ps × (certificate ≡ encode ps) × (a ≡ length (answersOf ps)) × (n ≡ length ps)
   pub every-true : (ps : List Part) → TrueCertificate rs t ps → certificate ≡ encode ps → v ≡ valid (length (answersOf ps)) (length ps)
 
--- Demand 3, for a certificate of d parts. The walk's whole certificate has at most d parts, and so no more are written by a walk that stops early. In a
--- list of n numbers the walk makes at most 2 × d × b probes. The probes returned are the sum over the lists of those that the walk makes
--- up to where it ends, early or not. An allowance no smaller than the sum of these bounds over all lists never ends as spent.
-pub record Bounded (rs : List Run) (t allowance : ℕ) (answers before : List ℕ) (o : Outcome) (after : List ℕ) (d : ℕ) : Type 0 where
+-- Demand 3, for a certificate of d parts, of a walk with an allowance, which did these events, which a refusal of this number ended, 0 where none did, and
+-- which wrote these bytes. The walk's whole certificate has at most d parts, and so no more are written by a walk that stops early. In a list of n numbers
+-- the walk makes at most 2 × d × b probes. The probes are the sum over the lists of those that the walk makes up to where it ends, early or not. An allowance
+-- no smaller than the sum of these bounds over all lists never ends as spent.
+pub record Bounded (rs : List Run) (t allowance : ℕ) (done : List Event) (number parts probes : ℕ) (bytes : List ℕ) (d : ℕ) : Type 0 where
   pub fewest : length (wholeCertificate t rs) ≤ d
-  pub written : take (bytesIn o) after ≡ encode (take (partsIn o) (wholeCertificate t rs))
-  pub few : partsIn o ≤ d
+  pub written : bytes ≡ encode (take parts (wholeCertificate t rs))
+  pub few : parts ≤ d
   pub each-whole : (r : Run) → List·Memᴰ r rs → probesIn (r .label) (wholeWalk t rs) ≤ boundIn d r
-  pub each : (r : Run) → List·Memᴰ r rs
-      → probesIn (r .label) (cutWalk t rs allowance (length answers) (length before) .events) ≤ boundIn d r
-  pub sum : probesMade o
-      ≡ total (λ r. probesIn (r .label) (cutWalk t rs allowance (length answers) (length before) .events)) rs
-  pub enough : bound d rs ≤ allowance → refusedBy o ≢ 7
+  pub each : (r : Run) → List·Memᴰ r rs → probesIn (r .label) done ≤ boundIn d r
+  pub sum : probes ≡ total (λ r. probesIn (r .label) done) rs
+  pub enough : bound d rs ≤ allowance → number ≢ 7
 
 -- Demand 3 whole: for all lists and every threshold that pass the first checks, for every true certificate of them, whoever wrote it, and whatever
 -- allowance and buffers our walk is lent. The outcome and the certificate buffer after the call are the call's own.
 pub record Demand3 (numbers ends : List ℕ) (t allowance : ℕ) (answers before : List ℕ) (o : Outcome) (after : List ℕ) : Type 0 where
   pub for-every : firstChecks numbers ends t ≡ passed → (ps : List Part) → TrueCertificate (runs numbers ends) t ps
-      → Bounded (runs numbers ends) t allowance answers before o after (length ps)
+      → Bounded (runs numbers ends) t allowance (cutWalk t (runs numbers ends) allowance (length answers) (length before) .events)
+      (refusedBy o) (partsIn o) (probesMade o) (take (bytesIn o) after) (length ps)

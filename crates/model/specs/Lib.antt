@@ -3,6 +3,8 @@ pub mod Certificate
 pub mod Compared
 pub mod Demands
 pub mod Instances
+pub mod Many
+pub mod ManyDemands
 pub mod Refusals
 pub mod Rows
 pub mod Runs

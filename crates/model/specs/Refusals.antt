@@ -4,13 +4,14 @@ use Prim.Native.Nat.{ℕ, zero, suc, _+_, _-_, _*_, _/_, _^_}
 use mathlib.Core.Bool.{Bool, true, false, _&&_, _||_, not}
 use mathlib.Core.List.{List, [], _∷_, _++_}
 use mathlib.Core.Option.{Option, none, some}
+use lib.Bits.{bitAnd}
 use lib.Count.{ones}
 use lib.Dec.{ltb, leb, eqb}
 use lib.ListN.{length, drop}
 use Rattle.model.specs.Certificate.{Part, answer, gap, firstOf, lastOf, answersOf, encode, sizeOf, unreadable, read, readField}
 use Rattle.model.specs.Compared.{wholeWalk, partsOf, probesOf}
 use Rattle.model.specs.Between.{within}
-use Rattle.model.specs.Runs.{Run, firstBin, pastBin, runs, unrisen, holds, names, mostRuns, mostNumbers}
+use Rattle.model.specs.Runs.{Run, firstBin, pastBin, runs, unrisen, holds, maskOfAll, names, chosen, mostRuns, mostNumbers}
 use Rattle.model.specs.Walk.{Event, sought, doubled, halved, wrote}
 
 -- A check is passed or is refused with the refusal's number and place. Checks are made in order, and the first one met decides.
@@ -46,14 +47,33 @@ unfoldable pub unrisenIn : ℕ → List Run → Option ℕ
 unrisenIn a [] = none
 unrisenIn a (r ∷ rs) = elim (unrisen a (r .bins)) [ some i ↦ some i | none ↦ unrisenIn (a + length (r .bins)) rs ]
 
--- The first checks, those of the door, in the order of the table.
-unfoldable pub firstChecks : List ℕ → List ℕ → ℕ → Check
-firstChecks numbers ends t =
-    refuseIf (eqb (length ends) 0 || ltb mostRuns (length ends)) 1 (length ends) then
-    refuseIf (eqb t 0 || ltb (length ends) t) 2 t then
+-- The first checks, those of the door, in pieces. 1: k is 0 or above 64, place k.
+unfoldable pub countCheck : List ℕ → Check
+countCheck ends = refuseIf (eqb (length ends) 0 || ltb mostRuns (length ends)) 1 (length ends)
+
+-- 2: the threshold is 0 or above the number of the runs asked about.
+unfoldable pub thresholdCheck : ℕ → ℕ → ℕ → Check
+thresholdCheck k t place = refuseIf (eqb t 0 || ltb k t) 2 place
+
+-- 3: an end is below the one before; else, the last end is not the length of the numbers, or that is above 1,048,576. 4: a run does not rise.
+unfoldable pub listChecks : List ℕ → List ℕ → Check
+listChecks numbers ends =
     refuseAt 3 (fallsFrom 0 0 ends) then
     refuseIf (not (eqb (lastEnd 0 ends) (length numbers)) || ltb mostNumbers (length numbers)) 3 (length ends) then
     refuseAt 4 (unrisenIn 0 (runs numbers ends))
+
+-- 13: a mask that is to choose runs is zero or names a run not below k.
+unfoldable pub maskCheck : ℕ → ℕ → ℕ → Check
+maskCheck k m place = refuseIf (eqb m 0 || not (eqb (m / 2 ^ k) 0)) 13 place
+
+-- The first checks of a question over all runs, in the order of the table.
+unfoldable pub firstChecks : List ℕ → List ℕ → ℕ → Check
+firstChecks numbers ends t = countCheck ends then thresholdCheck (length ends) t t then listChecks numbers ends
+
+-- Those over the runs that a mask chooses: the threshold is held against the ones in the mask.
+unfoldable pub chosenChecks : List ℕ → List ℕ → ℕ → ℕ → Check
+chosenChecks numbers ends m t =
+    countCheck ends then maskCheck (length ends) m 0 then thresholdCheck (ones m) t t then listChecks numbers ends
 
 -- What is left of the allowance, the answer buffer and the certificate buffer.
 pub record Room : Type 0 where
@@ -140,10 +160,13 @@ pub data Verdict : Type 0 where
 unfoldable pub misplaced : ℕ → Part → Bool
 misplaced b p = not (eqb (firstOf p) b) || (ltb (lastOf p) (firstOf p) || eqb b pastBin)
 
--- Refusal 10: the mask names a run not below k, or too few.
-unfoldable pub misnamed : ℕ → ℕ → Part → Bool
-misnamed k t (answer v m) = not (eqb (m / 2 ^ k) 0) || ltb (ones m) t
-misnamed k t (gap f l m) = not (eqb (m / 2 ^ k) 0) || ltb (ones m) (k - t + 1)
+-- Refusal 10: the mask names a run that is none of these, or too few.
+unfoldable pub namesOther : List Run → ℕ → Bool
+namesOther rs m = not (eqb (bitAnd m (maskOfAll rs)) m)
+
+unfoldable pub misnamed : List Run → ℕ → Part → Bool
+misnamed rs t (answer v m) = namesOther rs m || ltb (ones m) t
+misnamed rs t (gap f l m) = namesOther rs m || ltb (ones m) (length rs - t + 1)
 
 -- Refusal 11: a named run contradicts the part.
 unfoldable pub contradicts : Part → Run → Bool
@@ -157,7 +180,7 @@ anyContradicts p (r ∷ rs) = contradicts p r || anyContradicts p rs
 unfoldable pub checkPart : List Run → ℕ → ℕ → ℕ → Part → Check
 checkPart rs t b at p =
     refuseIf (misplaced b p) 9 at then
-    refuseIf (misnamed (length rs) t p) 10 at then
+    refuseIf (misnamed rs t p) 10 at then
     refuseIf (anyContradicts p rs) 11 at
 
 -- one more part, which is an answer or a gap
@@ -185,9 +208,13 @@ checkFrom (suc fuel) rs t b at (x ∷ bytes) =
           ]
     ]
 
+unfoldable pub judged : Check → List Run → ℕ → List ℕ → Verdict
+judged c rs t certificate =
+    elim c [ passed ↦ checkFrom (length certificate) rs t firstBin 0 certificate | refusal n p ↦ invalid n p 0 0 ]
+
+-- The checker judges by all runs, or by those alone that a mask chooses.
 unfoldable pub check : List ℕ → List ℕ → ℕ → List ℕ → Verdict
-check numbers ends t certificate =
-    elim (firstChecks numbers ends t) [
-      | passed ↦ checkFrom (length certificate) (runs numbers ends) t firstBin 0 certificate
-      | refusal n p ↦ invalid n p 0 0
-    ]
+check numbers ends t certificate = judged (firstChecks numbers ends t) (runs numbers ends) t certificate
+
+unfoldable pub checkChosen : List ℕ → List ℕ → ℕ → ℕ → List ℕ → Verdict
+checkChosen numbers ends m t certificate = judged (chosenChecks numbers ends m t) (chosen m (runs numbers ends)) t certificate

@@ -75,8 +75,17 @@ maskBits = 64
 unfoldable pub mask : (Run → Bool) → List Run → ℕ
 mask p rs = total (λ r. one (p r) * 2 ^ r .label) rs
 
+-- and the one that names all of these runs
+unfoldable pub maskOfAll : List Run → ℕ
+maskOfAll rs = mask (λ r. true) rs
+
 unfoldable pub bit : ℕ → ℕ → ℕ
 bit m i = m / 2 ^ i % 2
 
 unfoldable pub names : ℕ → Run → Bool
 names m r = eqb (bit m (r .label)) 1
+
+-- the runs that a mask chooses: those that it names, each with its label
+unfoldable pub chosen : ℕ → List Run → List Run
+chosen m [] = []
+chosen m (r ∷ rs) = elim (names m r) [ true ↦ r ∷ chosen m rs | false ↦ chosen m rs ]
