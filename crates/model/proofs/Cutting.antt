@@ -102,7 +102,7 @@ met-seven room (wrote (gap f l m)) h =
     (λ (o : ltb (room .bytes) 19 ≡ false). let z : 0 ≡ 7 = rw (o, met) at h in absurd (omega arith))
     (both (ltb (room .bytes) 19))
 
-after-probes : (room : Room) (e : Event) → after room e .probes ≡ room .probes - probe e
+pub after-probes : (room : Room) (e : Event) → after room e .probes ≡ room .probes - probe e
 unfolding after probe
 after-probes room (sought i) = omega arith
 after-probes room (doubled i) = refl

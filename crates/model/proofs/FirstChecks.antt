@@ -149,7 +149,7 @@ pub record Listed (numbers ends : List ℕ) : Type 0 where
   pub few-numbers : length numbers ≤ mostNumbers
   pub numbers-rise : unrisenIn 0 (runs numbers ends) ≡ none
 
-eqb-not : (a b : ℕ) → not (eqb a b) ≡ false → a ≡ b
+pub eqb-not : (a b : ℕ) → not (eqb a b) ≡ false → a ≡ b
 eqb-not a b e = borrow.Author.Tests.eqb-true a b (borrow.Author.Tests.not-false (eqb a b) e)
 
 pub count-passed : (ends : List ℕ) → countCheck ends ≡ passed → (0 < length ends) × (length ends ≤ mostRuns)

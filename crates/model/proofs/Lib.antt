@@ -15,6 +15,9 @@ pub mod FirstChecks
 pub mod From
 pub mod Heads
 pub mod Instances
+pub mod Many
+pub mod ManyChecks
+pub mod ManyDemands
 pub mod Masks
 pub mod Rounds
 pub mod Searching

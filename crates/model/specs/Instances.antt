@@ -1,10 +1,11 @@
 -- docs/SPECIFICATION.md, 'Instances': the starred ones, the last of which tells rounding the halving place down from rounding it up.
 -- Definitions only.
 use Prim.Native.Nat.{ℕ}
-use mathlib.Core.List.{List, [], _∷_, map}
+use mathlib.Core.List.{List, [], _∷_, _++_, map}
 use mathlib.Core.Path.{_≡_}
 use lib.ListN.{length, take, replicate}
 use Rattle.model.specs.Certificate.{Part, answer, gap, answersOf, encode}
+use Rattle.model.specs.Many.{ManyOutcome, all-accepted, refused-in, AnsweredMany, queryMany}
 use Rattle.model.specs.Refusals.{Outcome, accepted, refused, Answered, over, query}
 
 -- A question, and what it returns and writes. Its buffers are large enough: 8 answers and 128 bytes, of zeros.
@@ -81,6 +82,104 @@ roundedDown =
     instance (10 ∷ 20 ∷ 30 ∷ 40 ∷ 50 ∷ 60 ∷ 70 ∷ 55 ∷ []) (7 ∷ 8 ∷ []) 2 (accepted 0 3 57 4)
     (gap 0 54 2 ∷ gap 55 59 1 ∷ gap 60 4294967295 2 ∷ [])
 
--- The claim: each instance is answered as expected.
+-- A call with many questions over the runs of the listing, so many places lent for answers, certificate bytes and results, all zeros before the call; and
+-- what it returns and writes.
+pub record ManyInstance : Type 0 where
+  pub masks : List ℕ
+  pub thresholds : List ℕ
+  pub allowance : ℕ
+  pub answers : ℕ
+  pub bytes : ℕ
+  pub results : ℕ
+  pub outcome : ManyOutcome
+  pub parts : List Part
+  pub reached : List ℕ
+
+unfoldable pub askedMany : ManyInstance → AnsweredMany
+askedMany i =
+    queryMany (2 ∷ 5 ∷ 9 ∷ 5 ∷ 7 ∷ 9 ∷ 12 ∷ 1 ∷ 9 ∷ []) (3 ∷ 7 ∷ 9 ∷ []) (i .masks) (i .thresholds) (i .allowance) (replicate (i .answers) 0)
+    (replicate (i .bytes) 0) (replicate (i .results) 0)
+
+unfoldable pub expectedMany : ManyInstance → AnsweredMany
+expectedMany i =
+    record {
+      outcome = i .outcome;
+      answers = over (answersOf (i .parts)) (replicate (i .answers) 0);
+      certificate = over (encode (i .parts)) (replicate (i .bytes) 0);
+      results = over (i .reached) (replicate (i .results) 0);
+    }
+
+-- the parts over the first and second run with t = 2, and over the first and third with t = 1
+unfoldable pub firstTwoParts : List Part
+firstTwoParts = gap 0 4 2 ∷ answer 5 3 ∷ gap 6 8 1 ∷ answer 9 3 ∷ gap 10 4294967295 1 ∷ []
+
+unfoldable pub othersParts : List Part
+othersParts =
+    gap 0 0 5 ∷ answer 1 4 ∷ answer 2 1 ∷ gap 3 4 5 ∷ answer 5 1 ∷ gap 6 8 5 ∷ answer 9 5 ∷ gap 10 4294967295 5 ∷ []
+
+-- three questions with an allowance, and buffers large enough
+unfoldable pub threeQuestions : ℕ → ManyOutcome → List Part → List ℕ → ManyInstance
+threeQuestions allowance o ps rs =
+    record {
+      masks = 7 ∷ 3 ∷ 5 ∷ [];
+      thresholds = 2 ∷ 2 ∷ 1 ∷ [];
+      allowance = allowance;
+      answers = 9;
+      bytes = 340;
+      results = 7;
+      outcome = o;
+      parts = ps;
+      reached = rs;
+    }
+
+-- two questions with so many places for answers and bytes, of which the first finds room
+unfoldable pub twoQuestions : ℕ → ℕ → ManyOutcome → List Part → ManyInstance
+twoQuestions answers bytes o ps =
+    record {
+      masks = 7 ∷ 6 ∷ [];
+      thresholds = 2 ∷ 1 ∷ [];
+      allowance = 1000;
+      answers = answers;
+      bytes = bytes;
+      results = 4;
+      outcome = o;
+      parts = ps;
+      reached = 2 ∷ 106 ∷ [];
+    }
+
+-- questions that the first checks refuse, with so many places for results
+unfoldable pub refusedMany : List ℕ → List ℕ → ℕ → ManyOutcome → ManyInstance
+refusedMany masks thresholds results o =
+    record {
+      masks = masks;
+      thresholds = thresholds;
+      allowance = 1000;
+      answers = 9;
+      bytes = 340;
+      results = results;
+      outcome = o;
+      parts = [];
+      reached = [];
+    }
+
+unfoldable pub manyQuestions : List ManyInstance
+manyQuestions =
+    threeQuestions 5 (all-accepted 8 19 329 5) (listingParts ++ (firstTwoParts ++ othersParts)) (2 ∷ 106 ∷ 4 ∷ 193 ∷ 8 ∷ 329 ∷ []) ∷
+    threeQuestions 3 (refused-in 1 7 1 2 7 125 3) (listingParts ++ take 1 firstTwoParts) (2 ∷ 106 ∷ []) ∷
+    threeQuestions 4 (refused-in 1 7 3 3 9 159 4) (listingParts ++ take 3 firstTwoParts) (2 ∷ 106 ∷ []) ∷
+    twoQuestions 3 340 (refused-in 1 5 3 3 9 159 3) (listingParts ++ (gap 0 0 6 ∷ answer 1 4 ∷ gap 2 4 6 ∷ [])) ∷
+    twoQuestions 9 130 (refused-in 1 6 1 2 7 125 3) (listingParts ++ (gap 0 0 6 ∷ [])) ∷
+    refusedMany (7 ∷ 8 ∷ []) (2 ∷ 1 ∷ []) 4 (refused-in 1 13 1 0 0 0 0) ∷
+    refusedMany (7 ∷ 0 ∷ []) (4 ∷ 1 ∷ []) 4 (refused-in 0 2 3 0 0 0 0) ∷
+    refusedMany (7 ∷ 5 ∷ []) (2 ∷ 3 ∷ []) 4 (refused-in 1 2 2 0 0 0 0) ∷
+    refusedMany (7 ∷ []) (2 ∷ 1 ∷ []) 4 (refused-in 0 14 1 0 0 0 0) ∷
+    refusedMany (7 ∷ 7 ∷ []) (2 ∷ 1 ∷ []) 3 (refused-in 0 14 2 0 0 0 0) ∷
+    refusedMany [] [] 0 (all-accepted 0 0 0 0) ∷
+    []
+
+-- The claims: each instance is answered as expected.
 pub record AsExpected (is : List Instance) : Type 0 where
   pub same : map asked is ≡ map expected is
+
+pub record ManyAsExpected (is : List ManyInstance) : Type 0 where
+  pub same : map askedMany is ≡ map expectedMany is

@@ -1,0 +1,208 @@
+-- Demands 2 and 3 for a call with many questions: every clause, for any runs, masks and thresholds that pass the first checks, any allowance and any buffers.
+-- Assumes nothing.
+use Prim.Native.Nat.{ℕ, zero, suc, _+_, _-_, _*_, _≤_, _<_}
+use lib.ListN.{length, getD}
+use mathlib.Core.List.{List, [], _∷_}
+use mathlib.Core.Logic.{_≢_}
+use mathlib.Core.Path.{_≡_, refl, sym, ap, _∙_, subst}
+use native.Mathlib.Nat.{le-trans}
+use native.Mathlib.Omega.{arith}
+use Rattle.model.specs.Certificate.{Part, answersOf, encode, TrueCertificate}
+use Rattle.model.specs.Compared.{partsOf, wholeCertificate, probesIn, probesOf, bound}
+use Rattle.model.specs.Demands.{Fits, Certified, Bounded}
+use Rattle.model.specs.Many.{ManyCheck, all-passed, refusal-in, manyChecks, eventsOf, ending, reached, manyOutcome, answeredMany, walksOf, queryMany}
+use Rattle.model.specs.ManyDemands.{allAnswers, allParts, allBytes, allProbes, callRefusedBy, finishedOf, begunOf, endedBy, partsOfQuestion, ownIn, runsOf, walkOf, sumTo, ManyDemand2, ManyBounded, ManyDemand3}
+use Rattle.model.specs.Refusals.{Room, Ended, over}
+use Rattle.model.specs.Runs.{Run, pastBin, runs, chosen, total}
+use Rattle.model.proofs.Count.{total-le}
+use Rattle.model.proofs.Demands.{certified-walk, bounded-walk}
+use Rattle.model.proofs.FirstChecks.{chosen-fit}
+use Rattle.model.proofs.Many.{unbegun, sum-suc, sum-same, sum-le, sum-more, parts-writing, all-size, all-probes, Asked, asked, Ending, finished, stopped, walks-end, begun-all, ended-by, own-parts, own-answers, own-bytes}
+use Rattle.model.proofs.ManyChecks.{ManyPassed, many-passed}
+use Rattle.model.proofs.Truth.{Fit}
+
+module _ (numbers ends masks thresholds : List ℕ) (allowance : ℕ) (answers certificate results : List ℕ) (bins : Fits pastBin numbers)
+    (checked : manyChecks numbers ends masks thresholds results ≡ all-passed) where
+  ws : List Ended
+  ws = walksOf numbers ends masks thresholds allowance answers certificate
+
+  p : ManyPassed numbers ends masks thresholds results
+  p = many-passed numbers ends masks thresholds results checked
+
+  c : ManyCheck
+  c = ending 0 ws
+
+  end : Ending 0 ws (length masks) c
+  unfolding ws c walksOf
+  end = walks-end 0 _ (runs numbers ends) masks thresholds (p .rows)
+
+  fewer : (d : ManyCheck) → Ending 0 ws (length masks) d → length ws ≤ length masks
+  fewer d (finished l f) = omega arith
+  fewer d (stopped j k x e l m f g) = omega arith
+
+  -- question q
+  begun : (q : ℕ) → q < length ws → Asked (record { probes = allowance; answers = length answers; bytes = length certificate }) (runs numbers ends) masks thresholds ws q
+  unfolding ws walksOf
+  begun q h = asked _ (runs numbers ends) masks thresholds q h
+
+  fits : (q : ℕ) → q < length ws → Fit (runsOf numbers ends masks q) (getD thresholds q 0)
+  unfolding runsOf
+  fits q h =
+      let l = fewer c end in
+      chosen-fit numbers ends (getD masks q 0) (getD thresholds q 0) bins (p .each q (omega arith))
+
+  certified : (q : ℕ) → q < length ws
+      → Certified (runsOf numbers ends masks q) (getD thresholds q 0) (getD ws q unbegun .refused) (length (partsOf (walkOf ws q)))
+      (answersOf (partsOf (walkOf ws q))) (encode (partsOf (walkOf ws q)))
+  unfolding runsOf walkOf
+  certified q h =
+      let a = begun q h in
+      subst
+      (λ (e : Ended). Certified (runsOf numbers ends masks q) (getD thresholds q 0) (e .refused) (length (partsOf (e .events))) (answersOf (partsOf (e .events)))
+      (encode (partsOf (e .events))))
+      (sym (a .is)) (certified-walk (runsOf numbers ends masks q) (getD thresholds q 0) (a .left) (fits q h))
+
+  bounded : (q : ℕ) → q < length ws → (ps : List Part) → TrueCertificate (runsOf numbers ends masks q) (getD thresholds q 0) ps
+      → Bounded (runsOf numbers ends masks q) (getD thresholds q 0) (allowance - sumTo q (λ i. probesOf (walkOf ws i))) (walkOf ws q)
+      (getD ws q unbegun .refused) (length (partsOf (walkOf ws q))) (probesOf (walkOf ws q)) (encode (partsOf (walkOf ws q))) (length ps)
+  unfolding runsOf walkOf
+  bounded q h ps t =
+      let a = begun q h in
+      subst
+      (λ (n : ℕ). Bounded (runsOf numbers ends masks q) (getD thresholds q 0) n (walkOf ws q) (getD ws q unbegun .refused)
+      (length (partsOf (walkOf ws q))) (probesOf (walkOf ws q)) (encode (partsOf (walkOf ws q))) (length ps))
+      (a .probes)
+      (subst
+      (λ (e : Ended). Bounded (runsOf numbers ends masks q) (getD thresholds q 0) (a .left .probes) (e .events) (e .refused) (length (partsOf (e .events)))
+      (probesOf (e .events)) (encode (partsOf (e .events))) (length ps))
+      (sym (a .is)) (bounded-walk (runsOf numbers ends masks q) (getD thresholds q 0) (a .left) (fits q h) ps t))
+
+  parts-are : (q : ℕ) → q < length ws
+      → partsOfQuestion (manyOutcome c (eventsOf ws)) (length (wholeCertificate (getD thresholds q 0) (runsOf numbers ends masks q))) q
+      ≡ length (partsOf (walkOf ws q))
+  parts-are q h = own-parts ws (length masks) c end q h _ (certified q h .at-the-end)
+
+  in-walks : (q : ℕ) → q < begunOf (length masks) (manyOutcome c (eventsOf ws)) → q < length ws
+  in-walks q h = let e = begun-all ws (length masks) c end in omega arith
+
+  certified-each : (q : ℕ) → q < begunOf (length masks) (manyOutcome c (eventsOf ws))
+      → Certified (runsOf numbers ends masks q) (getD thresholds q 0) (endedBy (manyOutcome c (eventsOf ws)) q)
+      (partsOfQuestion (manyOutcome c (eventsOf ws)) (length (wholeCertificate (getD thresholds q 0) (runsOf numbers ends masks q))) q)
+      (ownIn (over (answersOf (partsOf (eventsOf ws))) answers) (over (reached 0 0 ws) results) (finishedOf (length masks) (manyOutcome c (eventsOf ws)))
+      (allAnswers (manyOutcome c (eventsOf ws))) 0 q)
+      (ownIn (over (encode (partsOf (eventsOf ws))) certificate) (over (reached 0 0 ws) results) (finishedOf (length masks) (manyOutcome c (eventsOf ws)))
+      (allBytes (manyOutcome c (eventsOf ws))) 1 q)
+  certified-each q h =
+      let l = in-walks q h in
+      rw (ended-by ws (length masks) c end q l, parts-are q l, own-answers ws (length masks) c answers results end q l,
+      own-bytes ws (length masks) c certificate results end q l)
+      (certified q l)
+
+  bounded-each : (ps : ℕ → List Part)
+      → ((q : ℕ) → q < length masks → TrueCertificate (runsOf numbers ends masks q) (getD thresholds q 0) (ps q))
+      → (q : ℕ) → q < begunOf (length masks) (manyOutcome c (eventsOf ws))
+      → Bounded (runsOf numbers ends masks q) (getD thresholds q 0) (allowance - sumTo q (λ i. probesOf (walkOf ws i))) (walkOf ws q)
+      (endedBy (manyOutcome c (eventsOf ws)) q)
+      (partsOfQuestion (manyOutcome c (eventsOf ws)) (length (wholeCertificate (getD thresholds q 0) (runsOf numbers ends masks q))) q) (probesOf (walkOf ws q))
+      (ownIn (over (encode (partsOf (eventsOf ws))) certificate) (over (reached 0 0 ws) results) (finishedOf (length masks) (manyOutcome c (eventsOf ws)))
+      (allBytes (manyOutcome c (eventsOf ws))) 1 q) (length (ps q))
+  bounded-each ps t q h =
+      let l = in-walks q h in
+      let f = fewer c end in
+      rw (ended-by ws (length masks) c end q l, parts-are q l, own-bytes ws (length masks) c certificate results end q l)
+      (bounded q l (ps q) (t q (omega arith)))
+
+  -- the sums over the questions
+  parts-sum : allParts (manyOutcome c (eventsOf ws))
+      ≡ sumTo (begunOf (length masks) (manyOutcome c (eventsOf ws)))
+      (λ q. partsOfQuestion (manyOutcome c (eventsOf ws)) (length (wholeCertificate (getD thresholds q 0) (runsOf numbers ends masks q))) q)
+  unfolding allParts manyOutcome
+  parts-sum =
+      let s = all-size partsOf parts-writing ws in
+      rw (begun-all ws (length masks) c end) (all-parts c ∙ (s ∙ sum-same (length ws) _ _ (λ q h. sym (parts-are q h))))
+    where
+      all-parts : (d : ManyCheck) → allParts (manyOutcome d (eventsOf ws)) ≡ length (partsOf (eventsOf ws))
+      all-parts all-passed = refl
+      all-parts (refusal-in q n i) = refl
+
+  probes-sum : allProbes (manyOutcome c (eventsOf ws))
+      ≡ sumTo (begunOf (length masks) (manyOutcome c (eventsOf ws))) (λ q. total (λ r. probesIn (r .label) (walkOf ws q)) (runsOf numbers ends masks q))
+  unfolding allProbes manyOutcome
+  probes-sum =
+      rw (begun-all ws (length masks) c end) (all-made c ∙ (all-probes ws ∙ sum-same (length ws) _ _ (λ q h. made q h)))
+    where
+      all-made : (d : ManyCheck) → allProbes (manyOutcome d (eventsOf ws)) ≡ probesOf (eventsOf ws)
+      all-made all-passed = refl
+      all-made (refusal-in q n i) = refl
+
+      made : (q : ℕ) → q < length ws → probesOf (walkOf ws q) ≡ total (λ r. probesIn (r .label) (walkOf ws q)) (runsOf numbers ends masks q)
+      made q h =
+          bounded q h (wholeCertificate (getD thresholds q 0) (runsOf numbers ends masks q)) (certified q h .whole-true) .sum
+
+  -- an allowance of the sum of all bounds is never spent
+  module _ (ps : ℕ → List Part) (true-each : (q : ℕ) → q < length masks → TrueCertificate (runsOf numbers ends masks q) (getD thresholds q 0) (ps q))
+      (large : sumTo (length masks) (λ q. bound (length (ps q)) (runsOf numbers ends masks q)) ≤ allowance) where
+    made-few : (q : ℕ) → q < length ws → probesOf (walkOf ws q) ≤ bound (length (ps q)) (runsOf numbers ends masks q)
+    unfolding bound
+    made-few q h =
+        let f = fewer c end in
+        let b = bounded q h (ps q) (true-each q (omega arith)) in
+        let s = b .sum in
+        let k = total-le _ _ (runsOf numbers ends masks q) (b .each) in
+        omega arith
+
+    unspent : (q : ℕ) → q < length ws → getD ws q unbegun .refused ≢ 7
+    unspent q h =
+        let f = fewer c end in
+        let b = bounded q h (ps q) (true-each q (omega arith)) in
+        let s = sum-le q (λ i. probesOf (walkOf ws i)) (λ i. bound (length (ps i)) (runsOf numbers ends masks i)) (λ i l. made-few i (omega arith)) in
+        let u = sum-suc q (λ i. bound (length (ps i)) (runsOf numbers ends masks i)) in
+        let v = sum-more (suc q) (length masks) (λ i. bound (length (ps i)) (runsOf numbers ends masks i)) (omega arith) in
+        b .enough (omega (arith, large))
+
+    never-spent : (d : ManyCheck) → Ending 0 ws (length masks) d → callRefusedBy (manyOutcome d (eventsOf ws)) ≢ 7
+    unfolding callRefusedBy manyOutcome
+    never-spent d (finished l f) e = omega arith
+    never-spent d (stopped j k x i l m f g) e = unspent j (omega arith) (g ∙ e)
+
+  pub certified-many : (q : ℕ) → q < begunOf (length masks) (queryMany numbers ends masks thresholds allowance answers certificate results .outcome)
+      → Certified (runsOf numbers ends masks q) (getD thresholds q 0) (endedBy (queryMany numbers ends masks thresholds allowance answers certificate results .outcome) q)
+      (partsOfQuestion (queryMany numbers ends masks thresholds allowance answers certificate results .outcome)
+      (length (wholeCertificate (getD thresholds q 0) (runsOf numbers ends masks q))) q)
+      (ownIn (queryMany numbers ends masks thresholds allowance answers certificate results .answers)
+      (queryMany numbers ends masks thresholds allowance answers certificate results .results)
+      (finishedOf (length masks) (queryMany numbers ends masks thresholds allowance answers certificate results .outcome))
+      (allAnswers (queryMany numbers ends masks thresholds allowance answers certificate results .outcome)) 0 q)
+      (ownIn (queryMany numbers ends masks thresholds allowance answers certificate results .certificate)
+      (queryMany numbers ends masks thresholds allowance answers certificate results .results)
+      (finishedOf (length masks) (queryMany numbers ends masks thresholds allowance answers certificate results .outcome))
+      (allBytes (queryMany numbers ends masks thresholds allowance answers certificate results .outcome)) 1 q)
+  unfolding queryMany answeredMany ws c
+  certified-many = rw (checked, queryMany) certified-each
+
+  pub bounded-many : (ps : ℕ → List Part)
+      → ((q : ℕ) → q < length masks → TrueCertificate (runsOf numbers ends masks q) (getD thresholds q 0) (ps q))
+      → ManyBounded numbers ends masks thresholds allowance (walksOf numbers ends masks thresholds allowance answers certificate)
+      (queryMany numbers ends masks thresholds allowance answers certificate results .outcome)
+      (queryMany numbers ends masks thresholds allowance answers certificate results .certificate)
+      (queryMany numbers ends masks thresholds allowance answers certificate results .results) (λ q. length (ps q))
+  unfolding queryMany answeredMany ws c
+  bounded-many ps t =
+      rw (checked, queryMany)
+      (record { each = bounded-each ps t; parts = parts-sum; probes = probes-sum; enough = λ l. never-spent ps t l c end })
+
+pub many-demand2 : (numbers ends masks thresholds : List ℕ) (allowance : ℕ) (answers certificate results : List ℕ) → Fits pastBin numbers
+    → ManyDemand2 numbers ends masks thresholds results (queryMany numbers ends masks thresholds allowance answers certificate results .outcome)
+    (queryMany numbers ends masks thresholds allowance answers certificate results .answers)
+    (queryMany numbers ends masks thresholds allowance answers certificate results .certificate)
+    (queryMany numbers ends masks thresholds allowance answers certificate results .results)
+many-demand2 numbers ends masks thresholds allowance answers certificate results h =
+    record { for-every = λ e. certified-many numbers ends masks thresholds allowance answers certificate results h e }
+
+pub many-demand3 : (numbers ends masks thresholds : List ℕ) (allowance : ℕ) (answers certificate results : List ℕ) → Fits pastBin numbers
+    → ManyDemand3 numbers ends masks thresholds allowance answers certificate results
+    (queryMany numbers ends masks thresholds allowance answers certificate results .outcome)
+    (queryMany numbers ends masks thresholds allowance answers certificate results .certificate)
+    (queryMany numbers ends masks thresholds allowance answers certificate results .results)
+many-demand3 numbers ends masks thresholds allowance answers certificate results h =
+    record { for-every = λ e ps t. bounded-many numbers ends masks thresholds allowance answers certificate results h e ps t }
