@@ -8,27 +8,27 @@ use mathlib.Core.List.{List}
 use mathlib.Core.Logic.{_≢_}
 use mathlib.Core.Option.{none, some}
 use mathlib.Core.Path.{_≡_}
-use Rattle.model.specs.Refusals.{Check, passed, refusal, _then_, refuseIf, refuseAt, fallsFrom, lastEnd, unrisenIn, firstChecks}
+use Rattle.model.specs.Refusals.{Check, passed, refusal, _then_, refuseIf, refuseAt, fallsFrom, lastEnd, unrisenIn, countCheck, thresholdCheck, listChecks, firstChecks}
 use Rattle.model.specs.Runs.{mostNumbers, mostRuns, runs}
 
 module _ (numbers ends : List ℕ) (t : ℕ) where
   pub no-runs : length ends ≡ 0 → firstChecks numbers ends t ≡ refusal 1 (length ends)
-  unfolding firstChecks _then_ refuseIf
+  unfolding firstChecks countCheck _then_ refuseIf
   no-runs h = rw (eq-eqb (length ends) 0 h)
 
   module _ (some-runs : length ends ≢ 0) where
     pub many-runs : mostRuns < length ends → firstChecks numbers ends t ≡ refusal 1 (length ends)
-    unfolding firstChecks _then_ refuseIf
+    unfolding firstChecks countCheck _then_ refuseIf
     many-runs h = rw (ne-eqb (length ends) 0 some-runs, lt-ltb mostRuns (length ends) h)
 
     module _ (few-runs : length ends ≤ mostRuns) where
       pub zero-threshold : t ≡ 0 → firstChecks numbers ends t ≡ refusal 2 t
-      unfolding firstChecks _then_ refuseIf
+      unfolding firstChecks countCheck thresholdCheck _then_ refuseIf
       zero-threshold h = rw (ne-eqb (length ends) 0 some-runs, le-ltb mostRuns (length ends) few-runs, eq-eqb t 0 h)
 
       module _ (some-threshold : t ≢ 0) where
         pub high-threshold : length ends < t → firstChecks numbers ends t ≡ refusal 2 t
-        unfolding firstChecks _then_ refuseIf
+        unfolding firstChecks countCheck thresholdCheck _then_ refuseIf
         high-threshold h =
             rw (ne-eqb (length ends) 0 some-runs, le-ltb mostRuns (length ends) few-runs, ne-eqb t 0 some-threshold, lt-ltb (length ends) t h)
 
@@ -41,7 +41,7 @@ module _ (numbers ends : List ℕ) (t : ℕ) where
               refuseAt 4 (unrisenIn 0 (runs numbers ends))
 
           to-rest : firstChecks numbers ends t ≡ rest
-          unfolding firstChecks _then_ refuseIf rest
+          unfolding firstChecks countCheck thresholdCheck listChecks _then_ refuseIf rest
           to-rest =
               rw (ne-eqb (length ends) 0 some-runs, le-ltb mostRuns (length ends) few-runs, ne-eqb t 0 some-threshold, le-ltb (length ends) t threshold)
 

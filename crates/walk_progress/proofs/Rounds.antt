@@ -2,19 +2,18 @@
 use Prim.Native.Nat.{ℕ, zero, suc, _+_, _-_, _*_, _^_, _≤_, _<_}
 use borrow.Author.Tests.{lt-ltb, le-ltb, le-leb, lt-leb, eq-eqb, ne-eqb}
 use lib.Dec.{ltb, leb, eqb}
-use lib.ListN.{length, replicate}
+use lib.ListN.{replicate}
 use mathlib.Core.Bool.{Bool, true, false, not}
 use mathlib.Core.List.{List, [], _∷_, _++_, map}
 use mathlib.Core.Logic.{⊎-elim, _≢_}
 use mathlib.Core.Path.{_≡_, refl, sym, ap, _∙_}
 use native.Mathlib.Omega.{arith}
 use Rattle.model.specs.Certificate.{answer, gap}
-use Rattle.model.specs.Runs.{Run, lastBin, pastBin, one, count, mask}
+use Rattle.model.specs.Runs.{Run, lastBin, pastBin, one, count, mask, maskOfAll}
 use Rattle.model.specs.Walk.{Event, doubled, halved, wrote, head, tthHead, seek, searchIn, searches, searched, movedOn, settle, round}
 use Rattle.model.proofs.Bounds.{search-made, search-none}
 use Rattle.model.proofs.Count.{total-eq, total-add}
 use Rattle.model.specs.Rows.{below, equal}
-use Rattle.model.proofs.Masks.{Labelled, every, mask-all}
 use Rattle.model.proofs.Tests.{lt-or-le}
 use Rattle.model.proofs.Truth.{not-below}
 use Rattle.walk_progress.proofs.Progress.{Quiet, quiet-nil, quiet-sought, quiet-doubled, quiet-halved}
@@ -26,8 +25,8 @@ unfolding one
 one-not true = refl
 one-not false = refl
 
-mask-split : (p q : Run → Bool) (rs : List Run) → ((r : Run) → q r ≡ not (p r)) → mask p rs + mask q rs ≡ mask every rs
-unfolding mask every
+mask-split : (p q : Run → Bool) (rs : List Run) → ((r : Run) → q r ≡ not (p r)) → mask p rs + mask q rs ≡ maskOfAll rs
+unfolding mask maskOfAll
 mask-split p q rs h =
     sym (total-add (λ r. one (p r) * 2 ^ r .label) (λ r. one (q r) * 2 ^ r .label) rs)
     ∙ total-eq _ (λ r. one true * 2 ^ r .label) rs
@@ -37,13 +36,15 @@ mask-split p q rs h =
     let k : one (p r) + one (q r) ≡ one true = omega arith in
     omega (arith, ap (λ x. x * 2 ^ r .label) k))
 
+heads-split : (rs : List Run) (v : ℕ) → mask (λ r. ltb (head r) v) rs + mask (λ r. leb v (head r)) rs ≡ maskOfAll rs
+heads-split rs v = mask-split (λ r. ltb (head r) v) (λ r. leb v (head r)) rs (λ r. not-below (head r) v)
+
 -- the mask of the runs whose head is not below v: all but those whose head is
-pub gap-mask : (rs : List Run) → Labelled 0 rs → (v : ℕ) → 2 ^ length rs - 1 - mask (λ r. ltb (head r) v) rs ≡ mask (λ r. leb v (head r)) rs
-gap-mask rs l v =
-    let a = mask-all rs l in
-    let b = mask-split (λ r. ltb (head r) v) (λ r. leb v (head r)) rs (λ r. not-below (head r) v) in
-    let e = ap (λ x. 2 ^ x) (native.Mathlib.Nat.zero-add (length rs)) in
-    omega arith
+pub gap-mask : (rs : List Run) (v : ℕ) → maskOfAll rs - mask (λ r. ltb (head r) v) rs ≡ mask (λ r. leb v (head r)) rs
+gap-mask rs v = let b = heads-split rs v in omega arith
+
+pub front-in-all : (rs : List Run) (v : ℕ) → mask (λ r. ltb (head r) v) rs ≤ maskOfAll rs
+front-in-all rs v = let b = heads-split rs v in omega arith
 
 -- ---- rounds
 

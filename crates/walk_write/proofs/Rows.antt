@@ -1,9 +1,9 @@
--- What the row of keys says of the runs: how many have a head, the t-th smallest head, and which runs have a head below a bin. Assumes nothing.
+-- What the row of keys says of the runs: how many have a head, the t-th smallest head, and which runs have a head below a bin. The runs may be all or those
+-- that a mask chooses: their labels rise. Assumes nothing.
 use Prim.Native.Nat.{ℕ, suc, _+_, _-_, _*_, _/_, _%_, _^_, _≤_, _<_}
 use borrow.Author.Tests.{lt-ltb, le-ltb, le-leb, lt-leb}
 use lib.Dec.{ltb, leb}
 use lib.ListN.{length, getD, take, drop}
-use lib.Pow.{pow-mono}
 use lib.Seq.{take-length}
 use mathlib.Core.Bool.{Bool, true, false}
 use mathlib.Core.List.{List, [], _∷_, List·Memᴰ, List·Memᴰ·head, List·Memᴰ·tail}
@@ -16,7 +16,7 @@ use Rattle.model.specs.Walk.{head, tthHead}
 use Rattle.model.proofs.Count.{total-eq, total-le, total-zero}
 use Rattle.model.specs.Rows.{below}
 use Rattle.model.proofs.Heads.{Heads, atMost, below-mono, tth-enough, tth-few}
-use Rattle.model.proofs.Masks.{Labelled, label-below, mask-only, names-mask}
+use Rattle.model.proofs.Masks.{Ascending, mask-under, names-mask}
 use Rattle.model.proofs.Tests.{lt-or-le, true-false}
 use Rattle.walk_keys.proofs.Row.{below-nil, below-pass, sum-one, member-sum, member-at, front-sum, rest-sum, below-sum, nth-enough, nth-few}
 use Rattle.walk_keys.specs.Row.{sumOf, belowCount, labelSum, Labels}
@@ -68,10 +68,7 @@ not-named-is : (named : ℕ) (c : Run → ℕ) (r : Run) → names named r ≡ f
 unfolding notNamed
 not-named-is named c r e = rw (e, notNamed)
 
-module _ (rs : List Run) (labels : Labelled 0 rs) (few : length rs ≤ mostRuns) (row : List ℕ) (order : InOrder rs row) where
-  small : (r : Run) → List·Memᴰ r rs → r .label < mostRuns
-  small r m = let l = label-below rs labels r m in omega arith
-
+module _ (rs : List Run) (labels : Ascending 0 rs) (small : (r : Run) → List·Memᴰ r rs → r .label < mostRuns) (row : List ℕ) (order : InOrder rs row) where
   -- a test that the key of no run passes is passed by no key
   none-pass : (p : ℕ → Bool) → ((r : Run) → List·Memᴰ r rs → head r < pastBin → p (keyOf r) ≡ false) → (k : ℕ) → List·Memᴰ k row → p k ≡ true → ⊥
   none-pass p h k m q =
@@ -157,7 +154,7 @@ module _ (rs : List Run) (labels : Labelled 0 rs) (few : length rs ≤ mostRuns)
 
   -- which runs the front names, and the row without it
   pub front-names : (u : ℕ) (r : Run) → List·Memᴰ r rs → names (mask (λ q. ltb (head q) u) rs) r ≡ ltb (head r) u
-  front-names u r m = names-mask (λ q. ltb (head q) u) 0 rs labels r m
+  front-names u r m = names-mask (λ q. ltb (head q) u) rs labels r m
 
   pub rest-same : (u : ℕ) → u ≤ pastBin → (g : ℕ → ℕ)
       → sumOf g (drop (belowCount (u * 256) row) row) ≡ total (notNamed (mask (λ q. ltb (head q) u) rs) (weigh g)) rs
@@ -218,7 +215,7 @@ module _ (rs : List Run) (labels : Labelled 0 rs) (few : length rs ≤ mostRuns)
       (lt-or-le (head r) pastBin))
 
   pub row-sum : labelSum row < 2 ^ maskBits
-  row-sum = let a = mask-only (λ r. ltb (head r) pastBin) rs labels in let b = pow-mono few in let e = row-mask in omega arith
+  row-sum = let a = mask-under (λ r. ltb (head r) pastBin) rs labels mostRuns small in let e = row-mask in omega arith
 
   -- the t-th smallest head is that of the t-th key
   key-at-most : (x : ℕ) → total (weigh (λ k. one (leb k x))) rs ≤ atMost (x / 256) rs

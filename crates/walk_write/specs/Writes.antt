@@ -1,5 +1,5 @@
 -- A walk's state between its steps, and what the steps that write a part ask and give: what the question comes to stays the same. Definitions only.
-use Prim.Native.Nat.{ℕ, _+_, _-_, _^_, _≤_, _<_}
+use Prim.Native.Nat.{ℕ, _+_, _-_, _≤_, _<_}
 use mathlib.Core.Bool.{true, false}
 use mathlib.Core.List.{List, [], _∷_, _++_, List·Memᴰ}
 use mathlib.Core.Path.{_≡_}
@@ -16,7 +16,7 @@ use Rattle.walk_write.specs.declared.Turn.{Turn}
 use Rattle.walk_write.specs.declared.Turn.the-variants.{On, Done, Stopped}
 use Rattle.walk_write.specs.declared.Wrote.{Wrote}
 use Rattle.walk_write.specs.declared.Wrote.the-variants as wrote′
-use Rattle.model.specs.Runs.{mostRuns, lastBin}
+use Rattle.model.specs.Runs.{lastBin}
 
 -- the counts of a state, of whose allowance so much is left
 unfoldable pub countsOf : ℕ → State → Counts
@@ -67,21 +67,20 @@ Answers w named answers certificate answers′ certificate′ (answered′.Full 
     (0 < x)
     × ((allowance : ℕ) (es : List Event) → goesOn allowance w answers certificate (wrote (answer (w .floor) named) ∷ es) ≡ endsWith x allowance w answers′ certificate′)
 
--- the row of keys names runs below the number of ends
-pub record LastReady (ends keys certificate : List ℕ) (w : State) : Type 0 where
-  pub few : length ends ≤ mostRuns
+-- the row of keys names chosen runs alone
+pub record LastReady (chosen : ℕ) (keys certificate : List ℕ) (w : State) : Type 0 where
   pub starts : w .start ≤ length keys
   pub labels : Labels (drop (w .start) keys)
-  pub named : labelSum (drop (w .start) keys) ≤ 2 ^ length ends - 1
+  pub named : labelSum (drop (w .start) keys) ≤ chosen
   pub bins : (k : ℕ) → List·Memᴰ k (drop (w .start) keys) → k < noKey
   pub written : w .bytes ≤ length certificate
   pub parts : w .parts ≤ w .bytes
 
--- the last gap, which names the runs that have no key in the row
-abbrev pub LastGap : List ℕ → List ℕ → State → List ℕ → List ℕ → Turn → Type 0
-LastGap ends keys w certificate certificate′ (On w′) = ⊥
-LastGap ends keys w certificate certificate′ (Done w′) =
-    Writes (wrote (gap (w .floor) lastBin (2 ^ length ends - 1 - labelSum (drop (w .start) keys))) ∷ []) w certificate certificate′ (wrote′.On w′)
-LastGap ends keys w certificate certificate′ (Stopped x w′) =
+-- the last gap, which names the chosen runs that have no key in the row
+abbrev pub LastGap : ℕ → List ℕ → State → List ℕ → List ℕ → Turn → Type 0
+LastGap chosen keys w certificate certificate′ (On w′) = ⊥
+LastGap chosen keys w certificate certificate′ (Done w′) =
+    Writes (wrote (gap (w .floor) lastBin (chosen - labelSum (drop (w .start) keys))) ∷ []) w certificate certificate′ (wrote′.On w′)
+LastGap chosen keys w certificate certificate′ (Stopped x w′) =
     (x ≡ 6) × (w′ ≡ w)
-    × Writes (wrote (gap (w .floor) lastBin (2 ^ length ends - 1 - labelSum (drop (w .start) keys))) ∷ []) w certificate certificate′ wrote′.Full
+    × Writes (wrote (gap (w .floor) lastBin (chosen - labelSum (drop (w .start) keys))) ∷ []) w certificate certificate′ wrote′.Full

@@ -66,17 +66,17 @@ pub fn gap_before(certificate: &mut [u8], w: State, v: u32, named: u64) -> Wrote
     gap_to(certificate, w, v - 1, named)
 }
 
-// Too few runs have a head: writes the gap from the floor to the last bin, naming the runs without one, and ends.
-pub fn last_gap(ends: &[u32], keys: &[u64], certificate: &mut [u8], w: State) -> Turn
-    requires { ⌜ LastReady (now ends) (now keys) (now certificate) w ⌝ }
-    ensures { λ r. ⌜ LastGap (now (ends .entry)) (now (keys .entry)) w (now (certificate .entry)) (now (certificate .exit)) r ⌝ }
+// Too few runs have a head: writes the gap from the floor to the last bin, naming the chosen runs without one, and ends.
+pub fn last_gap(chosen: u64, keys: &[u64], certificate: &mut [u8], w: State) -> Turn
+    requires { ⌜ LastReady chosen (now keys) (now certificate) w ⌝ }
+    ensures { λ r. ⌜ LastGap chosen (now (keys .entry)) w (now (certificate .entry)) (now (certificate .exit)) r ⌝ }
 {
     let headed = walk_keys::front(keys, w.start, walk_keys::NO_KEY);
     let Wrote::On(x) = gap_to(
         certificate,
         w,
         limits::LAST_BIN,
-        mask::all_runs(ends.len()) - headed.named,
+        chosen - headed.named,
     ) else {
         return Turn::Stopped(6, w);
     };

@@ -1,9 +1,8 @@
--- `last_gap` writes the last gap, which names the runs that have no key in the row. Assumes nothing.
-use Prim.Native.Nat.{_-_, _^_}
-use lib.ListN.{length, drop}
-use lib.Pow.{pow-pos, pow-mono}
+-- `last_gap` writes the last gap, which names the chosen runs that have no key in the row. Assumes nothing.
+use Prim.Native.Nat.{_-_}
+use lib.ListN.{drop}
 use mathlib.Core.List.{_∷_, []}
-use mathlib.Core.Path.{_≡_, refl, _∙_, subst}
+use mathlib.Core.Path.{_≡_, refl, ap, _∙_, subst}
 use native.Mathlib.Omega.{arith}
 use Rattle.model.specs.Certificate.{gap}
 use Rattle.model.specs.Walk.{wrote}
@@ -17,33 +16,20 @@ use Rattle.walk_write.proofs.last_gap.Statement.{statement}
 use Rattle.walk_write.proofs.last_gap.Tie as tie
 
 front-requires : tie.Need-front-requires
-front-requires c κs =
-    let p = c .before .before .before .pre in
-    let b = pow-mono (p .few) in
-    (p .starts, p .labels, omega (arith, p .named, pow-pos (length (c .before .before .before .args .ends .now))))
-
-all-runs-requires : tie.Need-all-runs-requires
-all-runs-requires c κs = search needs
+front-requires c κs = search needs
 
 -- the front below the limit is the whole row
-named : (c : tie.After-front) → (let a = c .before .before .before .before .args in c .front .result .named ≡ labelSum (drop (a .w .start) (a .keys .now)))
+named : (c : tie.After-front) → (let a = c .before .before .before .args in c .front .result .named ≡ labelSum (drop (a .w .start) (a .keys .now)))
 unfolding noKey pastBin
 named c =
-    let s = c .before .before .before .before in
+    let s = c .before .before .before in
     let a = s .args in
     c .front .ensures .1 ∙ whole-front noKey (c .front .result .count) (drop (a .w .start) (a .keys .now)) (s .pre .bins) (c .front .ensures .0)
 
--- the mask that is written
-mask : (c : tie.After-all-runs)
-    → (let a = c .before .before .before .before .before .before .args in
-    c .all-runs .result - c .before .before .front .result .named ≡ 2 ^ length (a .ends .now) - 1 - labelSum (drop (a .w .start) (a .keys .now)))
-mask c = λ i. c .all-runs .ensures i - named (c .before .before) i
-
 sub-gap-to : tie.Need-sub-gap-to
 sub-gap-to c =
-    let p = c .before .before .before .before .before .before .before .pre .named in
-    let n = named (c .before .before .before) in
-    let e = c .before .all-runs .ensures in
+    let p = c .before .before .before .before .before .pre .named in
+    let n = named (c .before .before) in
     omega arith
 
 gap-to-requires : tie.Need-gap-to-requires
@@ -62,13 +48,13 @@ returns : tie.Need-returns
 unfolding lastBin
 returns c =
     let g = c .before .before .before .before in
-    let r = g .before .before in
-    let a = r .before .before .before .before .before .before .args in (
+    let f = g .before .before .before in
+    let a = f .before .before .before .args in (
       refl,
       refl,
-      subst (λ x. Writes (wrote (gap (a .w .floor) lastBin x) ∷ []) (a .w) (a .certificate .now) (g .gap-to .last .0) Full) (mask r)
-          (subst (λ x. Writes (wrote (gap (a .w .floor) lastBin (r .all-runs .result - r .before .before .front .result .named)) ∷ []) (a .w) (a .certificate .now)
-          (g .gap-to .last .0) x) (c .enum-told .given .1) (g .gap-to .ensures)),
+      subst (λ x. Writes (wrote (gap (a .w .floor) lastBin x) ∷ []) (a .w) (a .certificate .now) (g .gap-to .last .0) Full) (ap (λ x. a .chosen - x) (named f))
+          (subst (λ x. Writes (wrote (gap (a .w .floor) lastBin (a .chosen - f .front .result .named)) ∷ []) (a .w) (a .certificate .now) (g .gap-to .last .0) x)
+          (c .enum-told .given .1) (g .gap-to .ensures)),
     )
 
 same-length-2 : tie.Need-same-length-2
@@ -78,18 +64,18 @@ returns-2 : tie.Need-returns-2
 unfolding lastBin
 returns-2 c =
     let g = c .before .before .before .before .before in
-    let r = g .before .before in
-    let a = r .before .before .before .before .before .before .args in
-    subst (λ x. Writes (wrote (gap (a .w .floor) lastBin x) ∷ []) (a .w) (a .certificate .now) (g .gap-to .last .0) (On (c .before .x .given .0 .0))) (mask r)
-    (subst (λ x. Writes (wrote (gap (a .w .floor) lastBin (r .all-runs .result - r .before .before .front .result .named)) ∷ []) (a .w) (a .certificate .now)
-    (g .gap-to .last .0) x) (c .before .x .given .1) (g .gap-to .ensures))
+    let f = g .before .before .before in
+    let a = f .before .before .before .args in
+    subst (λ x. Writes (wrote (gap (a .w .floor) lastBin x) ∷ []) (a .w) (a .certificate .now) (g .gap-to .last .0) (On (c .before .x .given .0 .0)))
+    (ap (λ x. a .chosen - x) (named f))
+    (subst (λ x. Writes (wrote (gap (a .w .floor) lastBin (a .chosen - f .front .result .named)) ∷ []) (a .w) (a .certificate .now) (g .gap-to .last .0) x)
+    (c .before .x .given .1) (g .gap-to .ensures))
 
 pub last-gap-spec : {M : Type 1} → statement M
 last-gap-spec =
     tie.close
     (tie.spec
     front-requires
-    all-runs-requires
     sub-gap-to
     gap-to-requires
     enum-known-x
