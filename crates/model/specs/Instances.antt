@@ -170,6 +170,7 @@ manyQuestions =
     twoQuestions 3 340 (refused-in 1 5 3 3 9 159 3) (listingParts ++ (gap 0 0 6 ∷ answer 1 4 ∷ gap 2 4 6 ∷ [])) ∷
     twoQuestions 9 130 (refused-in 1 6 1 2 7 125 3) (listingParts ++ (gap 0 0 6 ∷ [])) ∷
     refusedMany (7 ∷ 8 ∷ []) (2 ∷ 1 ∷ []) 4 (refused-in 1 13 1 0 0 0 0) ∷
+    refusedMany (7 ∷ 0 ∷ []) (2 ∷ 1 ∷ []) 4 (refused-in 1 13 1 0 0 0 0) ∷
     refusedMany (7 ∷ 0 ∷ []) (4 ∷ 1 ∷ []) 4 (refused-in 0 2 3 0 0 0 0) ∷
     refusedMany (7 ∷ 5 ∷ []) (2 ∷ 3 ∷ []) 4 (refused-in 1 2 2 0 0 0 0) ∷
     refusedMany (7 ∷ []) (2 ∷ 1 ∷ []) 4 (refused-in 0 14 1 0 0 0 0) ∷
