@@ -1,21 +1,23 @@
 -- A walk that a refusal ends is the first part of the whole walk: its parts are the first parts, it makes no more probes, and it is whole where no
 -- refusal ends it. An allowance that covers the whole walk's probes is never spent. Assumes nothing.
 use Prim.Native.Nat.{ℕ, zero, suc, _+_, _-_, _≤_, _<_}
-use borrow.Author.Tests.{eq-eqb, ne-eqb, eqb-true, eqb-false}
+use borrow.Author.Tests.{eq-eqb, ne-eqb, eqb-true, eqb-false, lt-ltb}
 use lib.Dec.{eqb, ltb}
-use lib.ListN.{length, take}
+use lib.ListN.{length, take, length-append}
 use lib.Seq.{take-append-seam}
 use mathlib.Core.Bool.{Bool, true, false}
 use mathlib.Core.List.{List, [], _∷_, _++_, List·Memᴰ, List·Memᴰ·head, List·Memᴰ·tail, Memᴰ·append-left}
 use mathlib.Core.Logic.{⊎-elim, _≢_}
 use mathlib.Core.Path.{_≡_, refl, sym, ap, _∙_, subst}
 use native.Mathlib.Omega.{arith}
-use Rattle.model.specs.Certificate.{answer, gap}
+use Rattle.model.specs.Certificate.{Part, answer, gap, answersOf, encodePart, encode, sizeOf}
 use Rattle.model.specs.Compared.{partsOf, cost, probe, probesOf}
+use Rattle.model.specs.Many.{leftAfter}
 use Rattle.model.specs.Refusals.{Room, met, after, cut}
 use Rattle.model.specs.Walk.{Event, sought, doubled, halved, wrote}
 use Rattle.model.proofs.Events.{cost-append, parts-append}
-use Rattle.model.proofs.Tests.{both, eq-or-ne}
+use Rattle.model.proofs.Encoding.{part-size}
+use Rattle.model.proofs.Tests.{both, lt-or-le, eq-or-ne}
 
 -- the step equations of a cut
 pub cut-on : (room : Room) (e : Event) (es : List Event) → met room e ≡ 0
@@ -122,3 +124,79 @@ cut-enough room (x ∷ es) h e =
     let z : suc n ≡ 7 = rw (cut-here room n x es i) at e in
     let s = met-seven room x (i ∙ z) in
     absurd (omega arith))
+
+-- ---- the buffers
+
+-- a part that is written fits
+met-answer : (room : Room) (v m : ℕ) → met room (wrote (answer v m)) ≡ 0 → (0 < room .answers) × (15 ≤ room .bytes)
+unfolding met
+met-answer room v m h =
+    ⊎-elim
+    (λ (q : room .answers ≡ 0). let z : _≡_ {A = ℕ} 5 0 = rw (eq-eqb (room .answers) 0 q, met) at h in absurd (omega arith))
+    (λ (q : room .answers ≢ 0).
+    ⊎-elim
+    (λ (o : room .bytes < 15). let z : _≡_ {A = ℕ} 6 0 = rw (ne-eqb (room .answers) 0 q, lt-ltb (room .bytes) 15 o, met) at h in absurd (omega arith))
+    (λ (o : 15 ≤ room .bytes). (omega arith, o))
+    (lt-or-le (room .bytes) 15))
+    (eq-or-ne (room .answers) 0)
+
+met-gap : (room : Room) (f l m : ℕ) → met room (wrote (gap f l m)) ≡ 0 → 19 ≤ room .bytes
+unfolding met
+met-gap room f l m h =
+    ⊎-elim
+    (λ (o : room .bytes < 19). let z : _≡_ {A = ℕ} 6 0 = rw (lt-ltb (room .bytes) 19 o, met) at h in absurd (omega arith))
+    (λ (o : 19 ≤ room .bytes). o)
+    (lt-or-le (room .bytes) 19)
+
+-- what some events write, and what they leave of the room
+pub record Fitted (room : Room) (es : List Event) : Type 0 where
+  pub answers : length (answersOf (partsOf es)) ≤ room .answers
+  pub bytes : length (encode (partsOf es)) ≤ room .bytes
+  pub answers-left : leftAfter room es .answers ≡ room .answers - length (answersOf (partsOf es))
+  pub bytes-left : leftAfter room es .bytes ≡ room .bytes - length (encode (partsOf es))
+
+encoded : (p : Part) (ps : List Part) → length (encode (p ∷ ps)) ≡ sizeOf p + length (encode ps)
+unfolding encode
+encoded p ps = length-append (encodePart p) (encode ps) ∙ ap (λ n. n + length (encode ps)) (part-size p)
+
+fitted-more : (room : Room) (e : Event) (es : List Event) → met room e ≡ 0 → Fitted (after room e) es → Fitted room (e ∷ es)
+unfolding after partsOf answersOf leftAfter sizeOf
+fitted-more room (sought i) es h f = record { answers = f .answers; bytes = f .bytes; answers-left = f .answers-left; bytes-left = f .bytes-left }
+fitted-more room (doubled i) es h f = record { answers = f .answers; bytes = f .bytes; answers-left = f .answers-left; bytes-left = f .bytes-left }
+fitted-more room (halved i) es h f = record { answers = f .answers; bytes = f .bytes; answers-left = f .answers-left; bytes-left = f .bytes-left }
+fitted-more room (wrote (answer v m)) es h f =
+    let k = met-answer room v m h in
+    let n = encoded (answer v m) (partsOf es) in
+    let a = f .answers in
+    let b = f .bytes in
+    let c = f .answers-left in
+    let d = f .bytes-left in
+    record { answers = omega (arith, k .0); bytes = omega (arith, k .1); answers-left = omega arith; bytes-left = omega arith }
+fitted-more room (wrote (gap f l m)) es h g =
+    let k = met-gap room f l m h in
+    let n = encoded (gap f l m) (partsOf es) in
+    let a = g .answers in
+    let b = g .bytes in
+    let c = g .answers-left in
+    let d = g .bytes-left in
+    record { answers = omega arith; bytes = omega arith; answers-left = omega arith; bytes-left = omega arith }
+
+-- all that a walk writes fits
+pub cut-fitted : (room : Room) (es : List Event) → Fitted room (cut room es .events)
+unfolding cut partsOf answersOf encode leftAfter
+cut-fitted room [] = record { answers = omega arith; bytes = omega arith; answers-left = omega arith; bytes-left = omega arith }
+cut-fitted room (e ∷ es) =
+    met-or-not room e
+    (λ h. rw (cut-on room e es h) (fitted-more room e (cut (after room e) es .events) h (cut-fitted (after room e) es)))
+    (λ n h. rw (cut-here room n e es h) (record { answers = omega arith; bytes = omega arith; answers-left = omega arith; bytes-left = omega arith }))
+
+-- a part takes at least one byte
+some-bytes : (p : Part) → 0 < sizeOf p
+unfolding sizeOf
+some-bytes (answer v m) = omega arith
+some-bytes (gap f l m) = omega arith
+
+pub parts-bytes : (ps : List Part) → length ps ≤ length (encode ps)
+unfolding encode
+parts-bytes [] = omega arith
+parts-bytes (p ∷ ps) = let i = parts-bytes ps in let n = encoded p ps in let s = some-bytes p in omega arith
