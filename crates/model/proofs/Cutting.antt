@@ -125,6 +125,34 @@ cut-enough room (x ∷ es) h e =
     let s = met-seven room x (i ∙ z) in
     absurd (omega arith))
 
+-- a walk makes no more probes than the allowance
+met-probe : (room : Room) (e : Event) → met room e ≡ 0 → probe e ≤ room .probes
+unfolding met probe
+met-probe room (sought i) h = omega arith
+met-probe room (doubled i) h =
+    ⊎-elim
+    (λ (q : room .probes ≡ 0). let z : _≡_ {A = ℕ} 7 0 = rw (eq-eqb (room .probes) 0 q, met) at h in absurd (omega arith))
+    (λ (q : room .probes ≢ 0). omega arith)
+    (eq-or-ne (room .probes) 0)
+met-probe room (halved i) h =
+    ⊎-elim
+    (λ (q : room .probes ≡ 0). let z : _≡_ {A = ℕ} 7 0 = rw (eq-eqb (room .probes) 0 q, met) at h in absurd (omega arith))
+    (λ (q : room .probes ≢ 0). omega arith)
+    (eq-or-ne (room .probes) 0)
+met-probe room (wrote p) h = omega arith
+
+pub cut-within : (room : Room) (es : List Event) → probesOf (cut room es .events) ≤ room .probes
+unfolding probesOf cost cut
+cut-within room [] = omega arith
+cut-within room (e ∷ es) =
+    met-or-not room e
+    (λ h.
+    let i = cut-within (after room e) es in
+    let a = after-probes room e in
+    let k = met-probe room e h in
+    rw (cut-on room e es h) (omega arith))
+    (λ n h. rw (cut-here room n e es h) (omega arith))
+
 -- ---- the buffers
 
 -- a part that is written fits

@@ -176,11 +176,11 @@ pub data Ending (i : ℕ) (ws : List Ended) (n : ℕ) : ManyCheck → Type 0 whe
   stopped : (j k x : ℕ) → k ≡ i + j → length ws ≡ suc j → suc j ≤ n → ((q : ℕ) → q < j → getD ws q unbegun .refused ≡ 0) → getD ws j unbegun .refused ≡ suc x
       → Ending i ws n (refusal-in k (suc x) (length (partsOf (walkOf ws j))))
 
-ending-on : (i : ℕ) (e : Ended) (es : List Ended) → e .refused ≡ 0 → ending i (e ∷ es) ≡ ending (suc i) es
+pub ending-on : (i : ℕ) (e : Ended) (es : List Ended) → e .refused ≡ 0 → ending i (e ∷ es) ≡ ending (suc i) es
 unfolding ending
 ending-on i e es h = rw (h, ending)
 
-ending-here : (i : ℕ) (e : Ended) (es : List Ended) (n : ℕ) → e .refused ≡ suc n → ending i (e ∷ es) ≡ refusal-in i (suc n) (length (partsOf (e .events)))
+pub ending-here : (i : ℕ) (e : Ended) (es : List Ended) (n : ℕ) → e .refused ≡ suc n → ending i (e ∷ es) ≡ refusal-in i (suc n) (length (partsOf (e .events)))
 unfolding ending
 ending-here i e es n h = rw (h, ending)
 
@@ -224,12 +224,16 @@ walks-end i room rs (m ∷ ms) (t ∷ ts) h =
 
 -- ---- the result row
 
-reached-on : (a b : ℕ) (e : Ended) (es : List Ended) → e .refused ≡ 0
+pub reached-on : (a b : ℕ) (e : Ended) (es : List Ended) → e .refused ≡ 0
     → reached a b (e ∷ es)
     ≡ (a + length (answersOf (partsOf (e .events)))) ∷ ((b + length (encode (partsOf (e .events))))
     ∷ reached (a + length (answersOf (partsOf (e .events)))) (b + length (encode (partsOf (e .events)))) es)
 unfolding reached
 reached-on a b e es h = rw (h, reached)
+
+pub reached-stop : (a b : ℕ) (e : Ended) (es : List Ended) (n : ℕ) → e .refused ≡ suc n → reached a b (e ∷ es) ≡ []
+unfolding reached
+reached-stop a b e es n h = rw (h, reached)
 
 -- what it tells of question q, where that and those before it are finished
 pub record Told (a b : ℕ) (ws : List Ended) (q : ℕ) : Type 0 where
