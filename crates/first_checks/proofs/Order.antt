@@ -1,73 +1,102 @@
--- The first checks, one after another: what the definition gives where the earlier checks are passed and this one is not. Assumes nothing.
-use Prim.Native.Nat.{ℕ, _≤_, _<_}
+-- What each of the first checks gives by the tests made so far, and what checks in order give. Assumes nothing.
+use Prim.Native.Nat.{ℕ, _/_, _^_, _≤_, _<_}
 use borrow.Author.Tests.{lt-ltb, le-ltb, eq-eqb, ne-eqb}
-use lib.Dec.{ltb, eqb}
+use lib.Dec.{eqb}
 use lib.ListN.{length}
-use mathlib.Core.Bool.{_||_, not}
+use mathlib.Core.Bool.{Bool, true, false}
 use mathlib.Core.List.{List}
 use mathlib.Core.Logic.{_≢_}
 use mathlib.Core.Option.{none, some}
-use mathlib.Core.Path.{_≡_}
-use Rattle.model.specs.Refusals.{Check, passed, refusal, _then_, refuseIf, refuseAt, fallsFrom, lastEnd, unrisenIn, countCheck, thresholdCheck, listChecks, firstChecks}
+use mathlib.Core.Path.{_≡_, refl, sym, _∙_}
+use Rattle.model.specs.Refusals.{Check, passed, refusal, _then_, refuseIf, refuseAt, fallsFrom, lastEnd, unrisenIn, countCheck, thresholdCheck, maskCheck, listChecks}
 use Rattle.model.specs.Runs.{mostNumbers, mostRuns, runs}
 
-module _ (numbers ends : List ℕ) (t : ℕ) where
-  pub no-runs : length ends ≡ 0 → firstChecks numbers ends t ≡ refusal 1 (length ends)
-  unfolding firstChecks countCheck _then_ refuseIf
+-- ---- checks in order
+
+pub refused-first : (a b : Check) {n p : ℕ} → a ≡ refusal n p → a ≡ (a then b)
+unfolding _then_
+refused-first a b e = rw e
+
+pub passed-first : (a b : Check) → a ≡ passed → b ≡ (a then b)
+unfolding _then_
+passed-first a b e = rw e
+
+pub in-order : (a b c : Check) → ((a then b) then c) ≡ (a then b then c)
+unfolding _then_
+in-order passed b c = refl
+in-order (refusal n p) b c = refl
+
+-- ---- 1
+
+module _ (ends : List ℕ) where
+  pub no-runs : length ends ≡ 0 → countCheck ends ≡ refusal 1 (length ends)
+  unfolding countCheck refuseIf
   no-runs h = rw (eq-eqb (length ends) 0 h)
 
-  module _ (some-runs : length ends ≢ 0) where
-    pub many-runs : mostRuns < length ends → firstChecks numbers ends t ≡ refusal 1 (length ends)
-    unfolding firstChecks countCheck _then_ refuseIf
-    many-runs h = rw (ne-eqb (length ends) 0 some-runs, lt-ltb mostRuns (length ends) h)
+  pub many-runs : length ends ≢ 0 → mostRuns < length ends → countCheck ends ≡ refusal 1 (length ends)
+  unfolding countCheck refuseIf
+  many-runs n h = rw (ne-eqb (length ends) 0 n, lt-ltb mostRuns (length ends) h)
 
-    module _ (few-runs : length ends ≤ mostRuns) where
-      pub zero-threshold : t ≡ 0 → firstChecks numbers ends t ≡ refusal 2 t
-      unfolding firstChecks countCheck thresholdCheck _then_ refuseIf
-      zero-threshold h = rw (ne-eqb (length ends) 0 some-runs, le-ltb mostRuns (length ends) few-runs, eq-eqb t 0 h)
+  pub runs-pass : length ends ≢ 0 → length ends ≤ mostRuns → countCheck ends ≡ passed
+  unfolding countCheck refuseIf
+  runs-pass n h = rw (ne-eqb (length ends) 0 n, le-ltb mostRuns (length ends) h)
 
-      module _ (some-threshold : t ≢ 0) where
-        pub high-threshold : length ends < t → firstChecks numbers ends t ≡ refusal 2 t
-        unfolding firstChecks countCheck thresholdCheck _then_ refuseIf
-        high-threshold h =
-            rw (ne-eqb (length ends) 0 some-runs, le-ltb mostRuns (length ends) few-runs, ne-eqb t 0 some-threshold, lt-ltb (length ends) t h)
+-- ---- 2
 
-        module _ (threshold : t ≤ length ends) where
-          -- the checks of runs and threshold are passed
-          rest : Check
-          rest =
-              refuseAt 3 (fallsFrom 0 0 ends) then
-              refuseIf (not (eqb (lastEnd 0 ends) (length numbers)) || ltb mostNumbers (length numbers)) 3 (length ends) then
-              refuseAt 4 (unrisenIn 0 (runs numbers ends))
+module _ (k t place : ℕ) where
+  pub zero-threshold : t ≡ 0 → thresholdCheck k t place ≡ refusal 2 place
+  unfolding thresholdCheck refuseIf
+  zero-threshold h = rw (eq-eqb t 0 h)
 
-          to-rest : firstChecks numbers ends t ≡ rest
-          unfolding firstChecks countCheck thresholdCheck listChecks _then_ refuseIf rest
-          to-rest =
-              rw (ne-eqb (length ends) 0 some-runs, le-ltb mostRuns (length ends) few-runs, ne-eqb t 0 some-threshold, le-ltb (length ends) t threshold)
+  pub high-threshold : t ≢ 0 → k < t → thresholdCheck k t place ≡ refusal 2 place
+  unfolding thresholdCheck refuseIf
+  high-threshold n h = rw (ne-eqb t 0 n, lt-ltb k t h)
 
-          pub falling : {p : ℕ} → fallsFrom 0 0 ends ≡ some p → firstChecks numbers ends t ≡ refusal 3 p
-          unfolding _then_ refuseAt rest
-          falling h = rw (to-rest, h)
+  pub threshold-met : t ≢ 0 → t ≤ k → thresholdCheck k t place ≡ passed
+  unfolding thresholdCheck refuseIf
+  threshold-met n h = rw (ne-eqb t 0 n, le-ltb k t h)
 
-          module _ (rise : fallsFrom 0 0 ends ≡ none) where
-            pub other-last : lastEnd 0 ends ≢ length numbers → firstChecks numbers ends t ≡ refusal 3 (length ends)
-            unfolding _then_ refuseAt refuseIf rest
-            other-last h = rw (to-rest, rise, ne-eqb (lastEnd 0 ends) (length numbers) h)
+-- ---- 13
 
-            module _ (last : lastEnd 0 ends ≡ length numbers) where
-              pub too-long : mostNumbers < length numbers → firstChecks numbers ends t ≡ refusal 3 (length ends)
-              unfolding _then_ refuseAt refuseIf rest
-              too-long h = rw (to-rest, rise, eq-eqb (lastEnd 0 ends) (length numbers) last, lt-ltb mostNumbers (length numbers) h)
+module _ (k m place : ℕ) where
+  pub none-chosen : m ≡ 0 → maskCheck k m place ≡ refusal 13 place
+  unfolding maskCheck refuseIf
+  none-chosen h = rw (eq-eqb m 0 h)
 
-              module _ (short : length numbers ≤ mostNumbers) where
-                to-numbers : firstChecks numbers ends t ≡ refuseAt 4 (unrisenIn 0 (runs numbers ends))
-                unfolding _then_ refuseAt refuseIf rest
-                to-numbers = rw (to-rest, rise, eq-eqb (lastEnd 0 ends) (length numbers) last, le-ltb mostNumbers (length numbers) short)
+  pub other-chosen : m ≢ 0 → eqb (m / 2 ^ k) 0 ≡ false → maskCheck k m place ≡ refusal 13 place
+  unfolding maskCheck refuseIf
+  other-chosen n h = rw (ne-eqb m 0 n, h)
 
-                pub unrisen-at : {p : ℕ} → unrisenIn 0 (runs numbers ends) ≡ some p → firstChecks numbers ends t ≡ refusal 4 p
-                unfolding refuseAt
-                unrisen-at h = rw (to-numbers, h)
+  pub runs-chosen : m ≢ 0 → eqb (m / 2 ^ k) 0 ≡ true → maskCheck k m place ≡ passed
+  unfolding maskCheck refuseIf
+  runs-chosen n h = rw (ne-eqb m 0 n, h)
 
-                pub all-passed : unrisenIn 0 (runs numbers ends) ≡ none → firstChecks numbers ends t ≡ passed
-                unfolding refuseAt
-                all-passed h = rw (to-numbers, h)
+-- ---- 3 and 4
+
+module _ (numbers ends : List ℕ) where
+  pub falling : {p : ℕ} → fallsFrom 0 0 ends ≡ some p → listChecks numbers ends ≡ refusal 3 p
+  unfolding listChecks _then_ refuseAt
+  falling h = rw h
+
+  module _ (rise : fallsFrom 0 0 ends ≡ none) where
+    pub other-last : lastEnd 0 ends ≢ length numbers → listChecks numbers ends ≡ refusal 3 (length ends)
+    unfolding listChecks _then_ refuseAt refuseIf
+    other-last h = rw (rise, ne-eqb (lastEnd 0 ends) (length numbers) h)
+
+    module _ (last : lastEnd 0 ends ≡ length numbers) where
+      pub too-long : mostNumbers < length numbers → listChecks numbers ends ≡ refusal 3 (length ends)
+      unfolding listChecks _then_ refuseAt refuseIf
+      too-long h = rw (rise, eq-eqb (lastEnd 0 ends) (length numbers) last, lt-ltb mostNumbers (length numbers) h)
+
+      module _ (short : length numbers ≤ mostNumbers) where
+        to-numbers : listChecks numbers ends ≡ refuseAt 4 (unrisenIn 0 (runs numbers ends))
+        unfolding listChecks _then_ refuseAt refuseIf
+        to-numbers = rw (rise, eq-eqb (lastEnd 0 ends) (length numbers) last, le-ltb mostNumbers (length numbers) short)
+
+        pub unrisen-at : {p : ℕ} → unrisenIn 0 (runs numbers ends) ≡ some p → listChecks numbers ends ≡ refusal 4 p
+        unfolding refuseAt
+        unrisen-at h = rw (to-numbers, h)
+
+        pub lists-pass : unrisenIn 0 (runs numbers ends) ≡ none → listChecks numbers ends ≡ passed
+        unfolding refuseAt
+        lists-pass h = rw (to-numbers, h)

@@ -1,9 +1,12 @@
-// The first checks (docs/SPECIFICATION.md, 'The refusals'), for question and checker alike. Two passes over the ends, one over the numbers.
+// The first checks (docs/SPECIFICATION.md, 'The refusals') for questions and checkers, one function for each that several calls make. Those of the
+// lists are two passes over the ends and one over the numbers.
 ghost use mathlib.Core.Path.{_≡_};
 ghost use mathlib.Core.Option.{none};
+ghost use Prim.Native.Nat.{_≤_};
+ghost use lib.Count.{ones};
 ghost use lib.ListN.{length};
-ghost use Rattle.model.specs.Refusals.{fallsFrom, lastEnd, unrisenIn, firstChecks};
-ghost use Rattle.model.specs.Runs.{runs};
+ghost use Rattle.model.specs.Refusals.{_then_, fallsFrom, lastEnd, unrisenIn, countCheck, thresholdCheck, maskCheck, listChecks, firstChecks, chosenChecks};
+ghost use Rattle.model.specs.Runs.{runs, mostRuns};
 ghost use Rattle.rising.specs.Found.{foundPlace};
 ghost use Rattle.first_checks.specs.Checked.{checkOf};
 use rising::Found;
@@ -60,8 +63,9 @@ fn last_end(ends: &[u32]) -> usize
     arith::usize_of_u32(ends[k - 1])
 }
 
-pub fn first_checks(numbers: &[u32], ends: &[u32], threshold: u32) -> Checked
-    ensures { λ r. ⌜ checkOf r ≡ firstChecks (now (numbers .entry)) (now (ends .entry)) threshold ⌝ }
+// Refusal 1: the number of the runs.
+pub fn count_check(ends: &[u32]) -> Checked
+    ensures { λ r. ⌜ checkOf r ≡ countCheck (now (ends .entry)) ⌝ }
 {
     let k = ends.len();
     if k == 0 {
@@ -76,19 +80,73 @@ pub fn first_checks(numbers: &[u32], ends: &[u32], threshold: u32) -> Checked
             place: k,
         };
     }
-    let t = arith::usize_of_u32(threshold);
-    if t == 0 {
+    Checked::Passed
+}
+
+// Refusal 2: a threshold over `k` runs.
+pub fn threshold_check(k: usize, threshold: usize, place: usize) -> Checked
+    ensures { λ r. ⌜ checkOf r ≡ thresholdCheck k threshold place ⌝ }
+{
+    if threshold == 0 {
         return Checked::Refused {
             number: 2,
-            place: t,
+            place: place,
         };
     }
-    if k < t {
+    if k < threshold {
         return Checked::Refused {
             number: 2,
-            place: t,
+            place: place,
         };
     }
+    Checked::Passed
+}
+
+// Refusal 13: a mask that chooses some of `k` runs.
+pub fn mask_check(k: usize, mask: u64, place: usize) -> Checked
+    requires { ⌜ k ≤ mostRuns ⌝ }
+    ensures { λ r. ⌜ checkOf r ≡ maskCheck k mask place ⌝ }
+{
+    if mask == 0 {
+        return Checked::Refused {
+            number: 13,
+            place: place,
+        };
+    }
+    if mask::names_only_below(mask, k as u32) {
+        return Checked::Passed;
+    }
+    Checked::Refused {
+        number: 13,
+        place: place,
+    }
+}
+
+// The first of two checks that is not passed.
+fn first_of(first: Checked, second: Checked) -> Checked
+    ensures { λ r. ⌜ checkOf r ≡ (checkOf first then checkOf second) ⌝ }
+{
+    let Checked::Passed = first else {
+        return first;
+    };
+    second
+}
+
+// Refusals 13, at `index`, and 2, at `place`: a mask that chooses some of `k` runs, and a threshold over those.
+pub fn choice_check(k: usize, mask: u64, threshold: usize, index: usize, place: usize) -> Checked
+    requires { ⌜ k ≤ mostRuns ⌝ }
+    ensures { λ r. ⌜ checkOf r ≡ (maskCheck k mask index then thresholdCheck (ones mask) threshold place) ⌝ }
+{
+    let choice = mask_check(k, mask, index);
+    let chosen = arith::usize_of_u32(mask::ones_of(mask));
+    let met = threshold_check(chosen, threshold, place);
+    first_of(choice, met)
+}
+
+// Refusals 3 and 4: the ends, and the numbers of each run.
+pub fn list_checks(numbers: &[u32], ends: &[u32]) -> Checked
+    ensures { λ r. ⌜ checkOf r ≡ listChecks (now (numbers .entry)) (now (ends .entry)) ⌝ }
+{
     if let Found::At(place) = falling_end(ends) {
         return Checked::Refused {
             number: 3,
@@ -98,13 +156,13 @@ pub fn first_checks(numbers: &[u32], ends: &[u32], threshold: u32) -> Checked
     if last_end(ends) != numbers.len() {
         return Checked::Refused {
             number: 3,
-            place: k,
+            place: ends.len(),
         };
     }
     if limits::MOST_NUMBERS < numbers.len() {
         return Checked::Refused {
             number: 3,
-            place: k,
+            place: ends.len(),
         };
     }
     if let Found::At(place) = unrisen_number(numbers, ends) {
@@ -114,4 +172,32 @@ pub fn first_checks(numbers: &[u32], ends: &[u32], threshold: u32) -> Checked
         };
     }
     Checked::Passed
+}
+
+// The first checks of a question or a checker over all runs.
+pub fn first_checks(numbers: &[u32], ends: &[u32], threshold: u32) -> Checked
+    ensures { λ r. ⌜ checkOf r ≡ firstChecks (now (numbers .entry)) (now (ends .entry)) threshold ⌝ }
+{
+    let t = arith::usize_of_u32(threshold);
+    let met = first_of(count_check(ends), threshold_check(ends.len(), t, t));
+    let Checked::Passed = met else {
+        return met;
+    };
+    list_checks(numbers, ends)
+}
+
+// Those over the runs that a mask chooses, the threshold held against their number.
+pub fn chosen_checks(numbers: &[u32], ends: &[u32], mask: u64, threshold: u32) -> Checked
+    ensures { λ r. ⌜ checkOf r ≡ chosenChecks (now (numbers .entry)) (now (ends .entry)) mask threshold ⌝ }
+{
+    let count = count_check(ends);
+    let Checked::Passed = count else {
+        return count;
+    };
+    let t = arith::usize_of_u32(threshold);
+    let choice = choice_check(ends.len(), mask, t, 0, t);
+    let Checked::Passed = choice else {
+        return choice;
+    };
+    list_checks(numbers, ends)
 }

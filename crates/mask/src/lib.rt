@@ -1,6 +1,7 @@
 // Masks: a 64-bit number in which bit i speaks of run i, bit 0 being the lowest.
 ghost use mathlib.Core.Path.{_≡_};
 ghost use Prim.Native.Nat.{_+_, _-_, _*_, _/_, _^_, _≤_, _<_};
+ghost use lib.Bits.{bitAnd};
 ghost use lib.Count.{ones};
 ghost use lib.Dec.{eqb};
 ghost use Rattle.model.specs.Runs.{bit, maskBits};
@@ -34,6 +35,13 @@ pub fn names_only_below(mask: u64, k: u32) -> bool
         return true;
     }
     mask >> k == 0
+}
+
+// Whether the mask names only runs that `chosen` names.
+pub fn names_only(mask: u64, chosen: u64) -> bool
+    ensures { λ r. ⌜ r ≡ eqb (bitAnd mask chosen) mask ⌝ }
+{
+    mask & chosen == mask
 }
 
 // How many runs the mask names.
