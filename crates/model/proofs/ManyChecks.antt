@@ -42,6 +42,13 @@ sound k i (m ∷ ms) (t ∷ ts) l e zero h =
     record { some-chosen = d .0; only = d .1; threshold = g .0; met = g .1 }
 sound k i (m ∷ ms) (t ∷ ts) l e (suc q) h = sound k (suc i) ms ts (omega arith) (question-second i _ _ e) q (omega arith)
 
+pub rows-passed : (masks thresholds results : List ℕ) → rowsCheck masks thresholds results ≡ passed
+    → (length masks ≡ length thresholds) × (2 * length masks ≤ length results)
+unfolding rowsCheck
+rows-passed masks thresholds results e =
+    let d = or-false (not (eqb (length masks) (length thresholds))) (ltb (length results) (2 * length masks)) (refuse-if _ 14 (length masks) e) in
+    (eqb-not (length masks) (length thresholds) (d .0), ltb-false (length results) (2 * length masks) (d .1))
+
 -- What the first checks of a call give.
 pub record ManyPassed (numbers ends masks thresholds results : List ℕ) : Type 0 where
   pub counted : countCheck ends ≡ passed
@@ -52,19 +59,19 @@ pub record ManyPassed (numbers ends masks thresholds results : List ℕ) : Type 
 
 pub many-passed : (numbers ends masks thresholds results : List ℕ) → manyChecks numbers ends masks thresholds results ≡ all-passed
     → ManyPassed numbers ends masks thresholds results
-unfolding manyChecks rowsCheck
+unfolding manyChecks
 many-passed numbers ends masks thresholds results e =
     let f = question-first 0 _ _ e in
     let c = then-first _ _ f in
     let g = then-second _ _ f in
     let l = then-first _ _ g in
-    let d = or-false (not (eqb (length masks) (length thresholds))) (ltb (length results) (2 * length masks)) (refuse-if _ 14 (length masks) (then-second _ _ g)) in
-    let r = eqb-not (length masks) (length thresholds) (d .0) in
+    let d = rows-passed masks thresholds results (then-second _ _ g) in
+    let r = d .0 in
     record {
       counted = c;
       lists = l;
       rows = r;
-      room = ltb-false (length results) (2 * length masks) (d .1);
+      room = d .1;
       each = λ q h.
           let s = sound (length ends) 0 masks thresholds r (question-second 0 _ _ e) q h in
           chosen-checks numbers ends (getD masks q 0) (getD thresholds q 0) c l (s .some-chosen) (s .only) (s .threshold) (s .met);

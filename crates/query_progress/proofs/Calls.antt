@@ -212,6 +212,33 @@ module _ (allowance q : ℕ) (c : Counts) (A B R : List ℕ) (rs : List Run) (m 
         bytes-are = ap (λ (x : Answered). x .certificate) e;
       }
 
+  -- the counts after it, as they are told
+  abbrev pub after : Counts → Counts
+  after d = record { answers = d .answers; parts = c .parts + d .parts; bytes = d .bytes; probes = d .probes }
+
+  module _ (number : ℕ) (d : Counts) (A′ B′ : List ℕ) (end : Told number d A′ B′) where
+    counts-after : countsAfter c (walked .events) ≡ after d
+    unfolding countsAfter
+    counts-after = counts-same (end .answers) (ap (λ n. c .parts + n) (end .parts)) (end .bytes) (end .probes)
+
+    pub next-on : number ≡ 0 → 2 * q + 2 ≤ length R
+        → callOnward allowance q c A B R rs (m ∷ ms) (t ∷ ts)
+        ≡ callOnward allowance (suc q) (after d) A′ B′ (placed R (2 * q) (d .answers ∷ (d .bytes ∷ []))) rs ms ts
+    next-on e l =
+        call-on (end .refused ∙ e) l
+        ∙ λ i. callOnward allowance (suc q) (counts-after i) (end .answers-are i) (end .bytes-are i) (placed R (2 * q) (end .answers i ∷ (end .bytes i ∷ []))) rs ms ts
+
+    pub next-stop : (n : ℕ) → number ≡ suc n
+        → callOnward allowance q c A B R rs (m ∷ ms) (t ∷ ts) ≡ callEnded (refusal-in q number (d .parts)) (after d) A′ B′ R
+    next-stop n e =
+        call-stop n (end .refused ∙ e)
+        ∙ λ i. callEnded (refusal-in q (sym e i) (end .parts i)) (counts-after i) (end .answers-are i) (end .bytes-are i) R
+
+    pub next-fits : Fits allowance (after d) A′ B′
+    next-fits =
+        subst (λ x. Fits allowance (after d) A′ x) (end .bytes-are)
+        (subst (λ x. Fits allowance (after d) x B₁) (end .answers-are) (subst (λ x. Fits allowance x A₁ B₁) counts-after fits-after))
+
 -- ---- the call
 
 -- no question is left
