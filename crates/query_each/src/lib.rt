@@ -1,0 +1,134 @@
+// The questions of a call one after another (docs/SPECIFICATION.md, 'Many questions'), each with what those before it left of the allowance and the buffers.
+ghost use mathlib.Core.Path.{_≡_};
+ghost use mathlib.Core.List.{_∷_, []};
+ghost use Prim.Native.Nat.{_+_, _*_, _≤_, _<_};
+ghost use lib.ListN.{length};
+ghost use Rattle.field_write.specs.Stored.{placed};
+ghost use Rattle.query_each.specs.Questions.{Ready, Asks, Answers};
+use walk_rounds::End;
+
+// What the questions so far have written, and the probes left of the call's allowance.
+pub struct Totals {
+    pub answers: usize,
+    pub parts: usize,
+    pub bytes: usize,
+    pub left: u32,
+}
+
+// How a call ended: the refusal's number, or 0, with its place and its question's index; and what all its questions have written.
+pub struct Finish {
+    pub number: u8,
+    pub place: usize,
+    pub question: usize,
+    pub at: Totals,
+}
+
+// Writes into the result row where the answers and the bytes of question `q` end.
+fn tell(results: &mut [u64], q: usize, answers: usize, bytes: usize)
+    requires { ⌜ 2 * q + 2 ≤ length (now results) ⌝ }
+    ensures { λ _. ⌜ now (results .exit) ≡ placed (now (results .entry)) (2 * q) (answers ∷ (bytes ∷ [])) ⌝ }
+{
+    let at = 2 * q;
+    results[at] = arith::u64_of_usize(answers);
+    results[at + 1] = arith::u64_of_usize(bytes);
+}
+
+// Question `q`, over the runs that its mask chooses. Where it reaches its end, the result row tells so.
+fn question(
+    numbers: &[u32],
+    ends: &[u32],
+    masks: &[u64],
+    thresholds: &[u32],
+    q: usize,
+    positions: &mut [u32],
+    keys: &mut [u64],
+    answers: &mut [u32],
+    certificate: &mut [u8],
+    results: &mut [u64],
+    totals: Totals,
+) -> Finish
+    requires { ⌜ Ready (now numbers) (now ends) (now masks) (now thresholds) (now positions) (now keys) (now answers) (now certificate) (now results) totals × (q < length (now masks)) ⌝ }
+    ensures { λ r. ⌜ Asks (now (numbers .entry)) (now (ends .entry)) (now (masks .entry)) (now (thresholds .entry)) q totals (now (answers .entry)) (now (certificate .entry)) (now (results .entry)) (now (answers .exit)) (now (certificate .exit)) (now (results .exit)) r ⌝ }
+{
+    let end = walk_whole::whole_walk(
+        numbers,
+        ends,
+        masks[q],
+        arith::usize_of_u32(thresholds[q]),
+        positions,
+        keys,
+        answers,
+        certificate,
+        totals.answers,
+        totals.bytes,
+        totals.left,
+    );
+    let w = end.at;
+    let at = Totals {
+        answers: w.answers,
+        parts: totals.parts + w.parts,
+        bytes: w.bytes,
+        left: w.left,
+    };
+    if end.number != 0 {
+        return Finish {
+            number: end.number,
+            place: w.parts,
+            question: q,
+            at: at,
+        };
+    }
+    tell(results, q, w.answers, w.bytes);
+    Finish {
+        number: 0,
+        place: 0,
+        question: 0,
+        at: at,
+    }
+}
+
+// All questions, until a refusal ends one.
+pub fn each_question(
+    numbers: &[u32],
+    ends: &[u32],
+    masks: &[u64],
+    thresholds: &[u32],
+    positions: &mut [u32],
+    keys: &mut [u64],
+    answers: &mut [u32],
+    certificate: &mut [u8],
+    results: &mut [u64],
+    totals: Totals,
+) -> Finish
+    requires { ⌜ Ready (now numbers) (now ends) (now masks) (now thresholds) (now positions) (now keys) (now answers) (now certificate) (now results) totals ⌝ }
+    ensures { λ r. ⌜ Answers (now (numbers .entry)) (now (ends .entry)) (now (masks .entry)) (now (thresholds .entry)) totals (now (answers .entry)) (now (certificate .entry)) (now (results .entry)) (now (answers .exit)) (now (certificate .exit)) (now (results .exit)) r ⌝ }
+{
+    let mut w = totals;
+    let mut q: usize = 0;
+    while q < masks.len() {
+        let f = question(
+            numbers,
+            ends,
+            masks,
+            thresholds,
+            q,
+            positions,
+            keys,
+            answers,
+            certificate,
+            results,
+            w,
+        );
+        if f.number != 0 {
+            return f;
+        }
+        w = f.at;
+        q += 1;
+    }
+    Finish {
+        number: 0,
+        place: 0,
+        question: 0,
+        at: w,
+    }
+}

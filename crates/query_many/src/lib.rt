@@ -1,0 +1,138 @@
+// Many questions over one set of runs (docs/SPECIFICATION.md, 'Many questions'): each chooses runs by a mask and has a threshold of its own; the allowance and
+// the buffers are the call's.
+ghost use mathlib.Core.Path.{_≡_};
+ghost use Prim.Native.Nat.{_≤_};
+ghost use Rattle.model.specs.Many.{all-passed, manyChecks, queryMany};
+ghost use Rattle.model.specs.ManyDemands.{ManyDemand2, ManyDemand3};
+ghost use Rattle.query_progress.specs.Calls.{callOutcome};
+ghost use Rattle.query_each.specs.Questions.{countsSo, endOf};
+ghost use Rattle.query_many.specs.Outcomes.{manyOutcomeIs, ReturnsMany};
+use query_checks::ManyChecked;
+use query_each::Finish;
+use query_each::Totals;
+
+// What a call returns: the counts of all its questions, and where it is refused the number, the place and the question's index, 0 if it belongs to none.
+pub enum ManyOutcome {
+    Accepted {
+        answers: usize,
+        parts: usize,
+        bytes: usize,
+        probes: u32,
+    },
+    Refused {
+        number: u8,
+        place: usize,
+        question: usize,
+        answers: usize,
+        parts: usize,
+        bytes: usize,
+        probes: u32,
+    },
+}
+
+// What a call returns that ended so.
+fn outcome_of(end: Finish, allowance: u32) -> ManyOutcome
+    requires { ⌜ end .at .left ≤ allowance ⌝ }
+    ensures { λ r. ⌜ manyOutcomeIs r ≡ callOutcome (endOf end) (countsSo allowance (end .at)) ⌝ }
+{
+    let w = end.at;
+    let probes = allowance - w.left;
+    if end.number == 0 {
+        return ManyOutcome::Accepted {
+            answers: w.answers,
+            parts: w.parts,
+            bytes: w.bytes,
+            probes: probes,
+        };
+    }
+    ManyOutcome::Refused {
+        number: end.number,
+        place: end.place,
+        question: end.question,
+        answers: w.answers,
+        parts: w.parts,
+        bytes: w.bytes,
+        probes: probes,
+    }
+}
+
+// A call that passes the first checks. Nothing is allocated: the positions and the keys are two rows with a place for each run, which every question uses anew.
+fn answer_all(
+    numbers: &[u32],
+    ends: &[u32],
+    masks: &[u64],
+    thresholds: &[u32],
+    allowance: u32,
+    answers: &mut [u32],
+    certificate: &mut [u8],
+    results: &mut [u64],
+) -> ManyOutcome
+    requires { ⌜ manyChecks (now numbers) (now ends) (now masks) (now thresholds) (now results) ≡ all-passed ⌝ }
+    ensures { λ r. ⌜ ReturnsMany (queryMany (now (numbers .entry)) (now (ends .entry)) (now (masks .entry)) (now (thresholds .entry)) allowance (now (answers .entry)) (now (certificate .entry)) (now (results .entry))) (manyOutcomeIs r) (now (answers .exit)) (now (certificate .exit)) (now (results .exit)) ⌝ }
+{
+    let mut positions = [0u32; limits::MOST_RUNS];
+    let mut keys = [0u64; limits::MOST_RUNS];
+    let k = ends.len();
+    let end = query_each::each_question(
+        numbers,
+        ends,
+        masks,
+        thresholds,
+        &mut positions[0..k],
+        &mut keys[0..k],
+        answers,
+        certificate,
+        results,
+        Totals {
+            answers: 0,
+            parts: 0,
+            bytes: 0,
+            left: allowance,
+        },
+    );
+    outcome_of(end, allowance)
+}
+
+// For each question which bins at least its threshold of its chosen runs hold, with a certificate, by at most `allowance` probes in all. Answers and certificates
+// follow each other in the two buffers; `results` gets for each finished question the answers and the bytes reached so far. One pass over the numbers checks them,
+// however many questions there are.
+pub fn query_many(
+    numbers: &[u32],
+    ends: &[u32],
+    masks: &[u64],
+    thresholds: &[u32],
+    allowance: u32,
+    answers: &mut [u32],
+    certificate: &mut [u8],
+    results: &mut [u64],
+) -> ManyOutcome
+    ensures returns { λ r. ⌜ ReturnsMany (queryMany (now (numbers .entry)) (now (ends .entry)) (now (masks .entry)) (now (thresholds .entry)) allowance (now (answers .entry)) (now (certificate .entry)) (now (results .entry))) (manyOutcomeIs r) (now (answers .exit)) (now (certificate .exit)) (now (results .exit)) ⌝ }
+    ensures demand2 { λ r. ⌜ ManyDemand2 (now (numbers .entry)) (now (ends .entry)) (now (masks .entry)) (now (thresholds .entry)) (now (results .entry)) (manyOutcomeIs r) (now (answers .exit)) (now (certificate .exit)) (now (results .exit)) ⌝ }
+    ensures demand3 { λ r. ⌜ ManyDemand3 (now (numbers .entry)) (now (ends .entry)) (now (masks .entry)) (now (thresholds .entry)) allowance (now (answers .entry)) (now (certificate .entry)) (now (results .entry)) (manyOutcomeIs r) (now (certificate .exit)) (now (results .exit)) ⌝ }
+{
+    match query_checks::many_checks(numbers, ends, masks, thresholds, results) {
+        ManyChecked::Refused {
+            number,
+            place,
+            question,
+        } => ManyOutcome::Refused {
+            number: number,
+            place: place,
+            question: question,
+            answers: 0,
+            parts: 0,
+            bytes: 0,
+            probes: 0,
+        },
+        ManyChecked::Passed => answer_all(
+            numbers,
+            ends,
+            masks,
+            thresholds,
+            allowance,
+            answers,
+            certificate,
+            results,
+        ),
+    }
+}
