@@ -14,8 +14,8 @@ use Rattle.model.specs.Refusals.{passed, firstChecks, query}
 use Rattle.model.specs.Runs.{Run, pastBin, mostNumbers, runs, total}
 use Rattle.model.proofs.Demands.{whole-bound, never-spent}
 use Rattle.model.proofs.Digits.{digits-mono, digits-least}
-use Rattle.model.proofs.Enough.{runs-numbers, passed-or-refused}
-use Rattle.model.proofs.FirstChecks.{first-passed, fit}
+use Rattle.model.proofs.Enough.{listed-numbers, passed-or-refused}
+use Rattle.model.proofs.FirstChecks.{Listed, first-passed, fit}
 use Rattle.model.proofs.Truth.{Fit}
 
 -- In a run of n numbers the whole walk makes at most 2 × n × digits n probes.
@@ -33,26 +33,25 @@ sum-bound n (r ∷ rs) h =
     let d = mul-le-mul-left (length (r .bins)) (digits-mono l) in
     omega arith
 
-module _ (numbers ends : List ℕ) (t : ℕ) where
+module _ (numbers ends : List ℕ) (p : Listed numbers ends) where
   -- For runs of n numbers in all the sum over the runs is at most 2 × n × digits n.
-  numbers-bound : firstChecks numbers ends t ≡ passed
-      → total (λ r. boundIn (length (r .bins)) r) (runs numbers ends) ≤ boundOf (length numbers) (length numbers)
-  unfolding runs boundOf
-  numbers-bound e =
-      let p = first-passed numbers ends t e in
-      let z = p .lists .ends-last in
-      let l = runs-numbers 0 0 0 numbers ends (p .lists .ends-rise) in
-      let n : total (λ r. length (r .bins)) (runs numbers ends) ≤ length numbers = omega arith in
+  numbers-bound : total (λ r. boundIn (length (r .bins)) r) (runs numbers ends) ≤ boundOf (length numbers) (length numbers)
+  unfolding boundOf
+  numbers-bound =
+      let n = listed-numbers numbers ends p in
       let k = sum-bound (length numbers) (runs numbers ends) n in
       let i = mul-le-mul-right (2 * digits (length numbers)) n in
       omega arith
 
   -- And that is at most 2 × 1048576 × 21, since there are at most 1048576 numbers.
-  most-bound : firstChecks numbers ends t ≡ passed → boundOf (length numbers) (length numbers) ≤ 2 * mostNumbers * 21
+  most-bound : boundOf (length numbers) (length numbers) ≤ 2 * mostNumbers * 21
   unfolding boundOf
-  most-bound e =
-      let l = first-passed numbers ends t e .lists .few-numbers in
+  most-bound =
+      let l = p .few-numbers in
       mul-le-mul (mul-le-mul-left 2 l) (digits-least (length numbers) 21 (omega arith))
+
+  pub lists-bound : total (λ r. boundIn (length (r .bins)) r) (runs numbers ends) ≤ 2 * mostNumbers * 21
+  lists-bound = le-trans numbers-bound most-bound
 
 module _ (numbers ends : List ℕ) (t allowance : ℕ) (answers certificate : List ℕ) (bins : Fits pastBin numbers) where
   -- Only a question that passes the first checks is refused as 7.
@@ -72,11 +71,11 @@ module _ (numbers ends : List ℕ) (t allowance : ℕ) (answers certificate : Li
   -- And so is 2 × n × digits n, where n is the count of all numbers.
   pub numbers-enough : boundOf (length numbers) (length numbers) ≤ allowance
       → refusedBy (query numbers ends t allowance answers certificate .outcome) ≢ 7
-  numbers-enough l e = allowance-enough (le-trans (numbers-bound numbers ends t (spent-passed e)) l) e
+  numbers-enough l e = allowance-enough (le-trans (numbers-bound numbers ends (first-passed numbers ends t (spent-passed e) .lists)) l) e
 
   -- And so is 44040192, whatever the count of numbers.
   pub always-enough : 2 * mostNumbers * 21 ≤ allowance → refusedBy (query numbers ends t allowance answers certificate .outcome) ≢ 7
-  always-enough l e = numbers-enough (le-trans (most-bound numbers ends t (spent-passed e)) l) e
+  always-enough l e = numbers-enough (le-trans (most-bound numbers ends (first-passed numbers ends t (spent-passed e) .lists)) l) e
 
 -- The largest allowance there is, 4294967295, is enough for every input.
 pub largest-enough : (numbers ends : List ℕ) (t : ℕ) (answers certificate : List ℕ) → Fits pastBin numbers

@@ -88,6 +88,17 @@ chosen-total m g (r ∷ rs) h =
     (λ (e : names m r ≡ false). let z = h r (List·Memᴰ·head refl) e in rw (chosen-out m r rs e) (omega arith))
     (both (names m r))
 
+-- and never more
+pub chosen-total-le : (m : ℕ) (g : Run → ℕ) (rs : List Run) → total g (chosen m rs) ≤ total g rs
+unfolding total
+chosen-total-le m g [] = let e = ap (total g) (chosen-nil m) in omega arith
+chosen-total-le m g (r ∷ rs) =
+    let i = chosen-total-le m g rs in
+    ⊎-elim
+    (λ (e : names m r ≡ true). rw (chosen-in m r rs e) (omega arith))
+    (λ (e : names m r ≡ false). rw (chosen-out m r rs e) (omega arith))
+    (both (names m r))
+
 one-false : (b : Bool) → b ≡ false → one b ≡ 0
 unfolding one
 one-false b e = rw e

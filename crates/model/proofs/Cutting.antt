@@ -183,7 +183,7 @@ pub record Fitted (room : Room) (es : List Event) : Type 0 where
   pub answers-left : leftAfter room es .answers ≡ room .answers - length (answersOf (partsOf es))
   pub bytes-left : leftAfter room es .bytes ≡ room .bytes - length (encode (partsOf es))
 
-encoded : (p : Part) (ps : List Part) → length (encode (p ∷ ps)) ≡ sizeOf p + length (encode ps)
+pub encoded : (p : Part) (ps : List Part) → length (encode (p ∷ ps)) ≡ sizeOf p + length (encode ps)
 unfolding encode
 encoded p ps = length-append (encodePart p) (encode ps) ∙ ap (λ n. n + length (encode ps)) (part-size p)
 

@@ -123,7 +123,7 @@ module _ (rs : List Run) (t : ℕ) (room : Room) where
   unfolding wholeCertificate
   few-parts = cut-few room (wholeWalk t rs)
 
-  cut-bound : (r : Run) → probesIn (r .label) (ended .events) ≤ probesIn (r .label) (wholeWalk t rs)
+  pub cut-bound : (r : Run) → probesIn (r .label) (ended .events) ≤ probesIn (r .label) (wholeWalk t rs)
   unfolding probesIn
   cut-bound r = cut-cost (probeIn (r .label)) room (wholeWalk t rs)
 

@@ -10,22 +10,24 @@ use mathlib.Core.List.{List, [], _∷_}
 use mathlib.Core.Logic.{_⊎_, inl, inr, ⊎-elim, _≢_}
 use mathlib.Core.Option.{Option, none, some}
 use mathlib.Core.Path.{_≡_, refl, ap}
+use native.Mathlib.Nat.{le-trans}
 use native.Mathlib.Omega.{arith}
-use Rattle.model.specs.Certificate.{Part, answer, gap, answersOf, sizeOf}
+use Rattle.model.specs.Certificate.{Part, answer, gap, answersOf, encode, sizeOf}
 use Rattle.model.specs.Compared.{wholeWalk, partsOf}
 use Rattle.model.specs.Demands.{Fits, refusedBy}
 use Rattle.model.specs.Refusals.{Check, passed, refusal, _then_, refuseIf, refuseAt, fallsFrom, lastEnd, countCheck, thresholdCheck, listChecks, firstChecks, Room, met, after, cut, cutWalk, refused, outcomeOf, query}
 use Rattle.model.specs.Runs.{Run, firstBin, pastBin, runsFrom, runs, total, one, count}
 use Rattle.model.specs.Walk.{Event, sought, doubled, halved, wrote, headOf, head}
 use Rattle.model.proofs.Count.{total-le, total-add, count-map, count-le}
-use Rattle.model.proofs.Cutting.{cut-on, cut-here}
+use Rattle.model.proofs.Cutting.{cut-on, cut-here, encoded}
 use Rattle.model.proofs.Demands.{whole-walked}
 use Rattle.model.proofs.Events.{parts-round}
-use Rattle.model.proofs.FirstChecks.{first-passed, fit, not-fallen}
+use Rattle.model.proofs.FirstChecks.{Listed, first-passed, fit, not-fallen}
 use Rattle.model.specs.Rows.{from, below, equal}
 use Rattle.model.proofs.From.{from-pass, from-stop, from-nil, from-from, from-length, from-fewer, head-nil, head-cons}
 use Rattle.model.proofs.Heads.{atMost}
 use Rattle.model.proofs.Tests.{lt-or-le, eq-or-ne, one-most}
+use Rattle.model.proofs.Truth.{Fit}
 use Rattle.model.proofs.Walking.{fromRun, at, gapAt, answerAt, Walked, over, stop, pass, hit, hit-here}
 
 -- ---- numbers left
@@ -169,6 +171,26 @@ cut-roomy room (wrote (gap f l m) ∷ es) h k =
     roomy-on room (wrote (gap f l m)) es (rw (le-ltb (room .bytes) 19 n, met))
     (cut-roomy (after room (wrote (gap f l m))) es h (omega arith))
 
+sizes-bytes : (ps : List Part) → sizes ps ≡ length (encode ps)
+unfolding sizes encode
+sizes-bytes [] = refl
+sizes-bytes (p ∷ ps) = let i = sizes-bytes ps in let n = encoded p ps in omega arith
+
+-- Of a walk over any runs: it writes at most n answers and 34 × n + 19 bytes, where the runs have at most n numbers.
+pub walk-small : {rs : List Run} {t : ℕ} → Fit rs t → (n : ℕ) → total (λ r. length (r .bins)) rs ≤ n
+    → (length (answersOf (partsOf (wholeWalk t rs))) ≤ n) × (length (encode (partsOf (wholeWalk t rs))) ≤ 34 * n + 19)
+walk-small {rs} {t} g n l =
+    let k = walk-needs (g .some) (whole-walked g) in
+    let m = left-most firstBin rs in
+    let s = sizes-bytes (partsOf (wholeWalk t rs)) in
+    (omega (arith, k .answers), omega (arith, k .bytes))
+
+-- With that much room it is ended by 7 or by nothing.
+pub walk-room : (room : Room) (es : List Event) → length (answersOf (partsOf es)) ≤ room .answers → length (encode (partsOf es)) ≤ room .bytes
+    → (cut room es .refused ≡ 0) ⊎ (cut room es .refused ≡ 7)
+unfolding Roomy
+walk-room room es a b = let s = sizes-bytes (partsOf es) in cut-roomy room es a (omega arith)
+
 -- an ended walk that 5 and 6 did not end is refused as 7 only
 ended-roomy : (es : List Event) (r n p a b q : ℕ) → (r ≡ 0) ⊎ (r ≡ 7) → outcomeOf (record { events = es; refused = r }) ≡ refused n p a b q → n ≡ 7
 unfolding outcomeOf
@@ -222,19 +244,22 @@ passed-or-refused numbers ends t allowance answers certificate = go (firstChecks
 
 -- ---- the law
 
+-- the runs of lists that pass have no more numbers than the row
+pub listed-numbers : (numbers ends : List ℕ) → Listed numbers ends → total (λ r. length (r .bins)) (runs numbers ends) ≤ length numbers
+unfolding runs
+listed-numbers numbers ends p =
+    let n = runs-numbers 0 0 0 numbers ends (p .ends-rise) in
+    let z = p .ends-last in
+    omega arith
+
 module _ (numbers ends : List ℕ) (t allowance : ℕ) (answers certificate : List ℕ) (bins : Fits pastBin numbers)
     (room : length numbers ≤ length answers) (bytes : 34 * length numbers + 19 ≤ length certificate) where
   walk-roomy : firstChecks numbers ends t ≡ passed
       → Roomy (record { probes = allowance; answers = length answers; bytes = length certificate }) (wholeWalk t (runs numbers ends))
-  unfolding runs
+  unfolding Roomy
   walk-roomy e =
-      let g = fit numbers ends t bins e in
-      let p = first-passed numbers ends t e in
-      let k = walk-needs (g .some) (whole-walked g) in
-      let n = runs-numbers 0 0 0 numbers ends (p .lists .ends-rise) in
-      let l = left-most firstBin (runs numbers ends) in
-      let z = p .lists .ends-last in
-      cut-roomy _ (wholeWalk t (runs numbers ends)) (omega (arith, k .answers)) (omega (arith, k .bytes))
+      let k = walk-small (fit numbers ends t bins e) (length numbers) (listed-numbers numbers ends (first-passed numbers ends t e .lists)) in
+      walk-room _ (wholeWalk t (runs numbers ends)) (le-trans (k .0) room) (le-trans (k .1) bytes)
 
   -- A question that passes the first checks is accepted or refused as 7: refusals 5 and 6 never occur.
   pub room-enough : firstChecks numbers ends t ≡ passed → (n p a b q : ℕ)

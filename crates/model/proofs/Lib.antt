@@ -18,6 +18,7 @@ pub mod Instances
 pub mod Many
 pub mod ManyChecks
 pub mod ManyDemands
+pub mod ManyEnough
 pub mod Masks
 pub mod Rounds
 pub mod Searching

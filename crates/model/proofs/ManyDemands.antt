@@ -2,20 +2,20 @@
 -- Assumes nothing.
 use Prim.Native.Nat.{ℕ, zero, suc, _+_, _-_, _*_, _≤_, _<_}
 use lib.ListN.{length, getD}
-use mathlib.Core.List.{List, [], _∷_}
+use mathlib.Core.List.{List, [], _∷_, List·Memᴰ}
 use mathlib.Core.Logic.{_≢_}
 use mathlib.Core.Path.{_≡_, refl, sym, ap, _∙_, subst}
 use native.Mathlib.Nat.{le-trans}
 use native.Mathlib.Omega.{arith}
 use Rattle.model.specs.Certificate.{Part, answersOf, encode, TrueCertificate}
-use Rattle.model.specs.Compared.{partsOf, wholeCertificate, probesIn, probesOf, bound}
+use Rattle.model.specs.Compared.{wholeWalk, partsOf, wholeCertificate, probesIn, probesOf, boundIn, bound}
 use Rattle.model.specs.Demands.{Fits, Certified, Bounded}
 use Rattle.model.specs.Many.{ManyCheck, all-passed, refusal-in, manyChecks, eventsOf, ending, reached, manyOutcome, answeredMany, walksOf, queryMany}
 use Rattle.model.specs.ManyDemands.{allAnswers, allParts, allBytes, allProbes, callRefusedBy, finishedOf, begunOf, endedBy, partsOfQuestion, ownIn, runsOf, walkOf, sumTo, ManyDemand2, ManyBounded, ManyDemand3}
-use Rattle.model.specs.Refusals.{Room, Ended, over}
+use Rattle.model.specs.Refusals.{Room, Ended, cut, over}
 use Rattle.model.specs.Runs.{Run, pastBin, runs, chosen, total}
 use Rattle.model.proofs.Count.{total-le}
-use Rattle.model.proofs.Demands.{certified-walk, bounded-walk}
+use Rattle.model.proofs.Demands.{cut-unspent, cut-bound, sum-made, certified-walk, bounded-walk}
 use Rattle.model.proofs.FirstChecks.{chosen-fit}
 use Rattle.model.proofs.Many.{unbegun, sum-suc, sum-same, sum-le, sum-more, parts-writing, all-size, all-probes, Asked, asked, Ending, finished, stopped, walks-end, begun-all, ended-by, own-parts, own-answers, own-bytes}
 use Rattle.model.proofs.ManyChecks.{ManyPassed, many-passed}
@@ -23,7 +23,7 @@ use Rattle.model.proofs.Truth.{Fit}
 
 module _ (numbers ends masks thresholds : List ℕ) (allowance : ℕ) (answers certificate results : List ℕ) (bins : Fits pastBin numbers)
     (checked : manyChecks numbers ends masks thresholds results ≡ all-passed) where
-  ws : List Ended
+  pub ws : List Ended
   ws = walksOf numbers ends masks thresholds allowance answers certificate
 
   p : ManyPassed numbers ends masks thresholds results
@@ -45,9 +45,9 @@ module _ (numbers ends masks thresholds : List ℕ) (allowance : ℕ) (answers c
   unfolding ws walksOf
   begun q h = asked _ (runs numbers ends) masks thresholds q h
 
-  fits : (q : ℕ) → q < length ws → Fit (runsOf numbers ends masks q) (getD thresholds q 0)
+  pub question-fit : (q : ℕ) → q < length ws → Fit (runsOf numbers ends masks q) (getD thresholds q 0)
   unfolding runsOf
-  fits q h =
+  question-fit q h =
       let l = fewer c end in
       chosen-fit numbers ends (getD masks q 0) (getD thresholds q 0) bins (p .each q (omega arith))
 
@@ -60,7 +60,7 @@ module _ (numbers ends masks thresholds : List ℕ) (allowance : ℕ) (answers c
       subst
       (λ (e : Ended). Certified (runsOf numbers ends masks q) (getD thresholds q 0) (e .refused) (length (partsOf (e .events))) (answersOf (partsOf (e .events)))
       (encode (partsOf (e .events))))
-      (sym (a .is)) (certified-walk (runsOf numbers ends masks q) (getD thresholds q 0) (a .left) (fits q h))
+      (sym (a .is)) (certified-walk (runsOf numbers ends masks q) (getD thresholds q 0) (a .left) (question-fit q h))
 
   bounded : (q : ℕ) → q < length ws → (ps : List Part) → TrueCertificate (runsOf numbers ends masks q) (getD thresholds q 0) ps
       → Bounded (runsOf numbers ends masks q) (getD thresholds q 0) (allowance - sumTo q (λ i. probesOf (walkOf ws i))) (walkOf ws q)
@@ -75,7 +75,7 @@ module _ (numbers ends masks thresholds : List ℕ) (allowance : ℕ) (answers c
       (subst
       (λ (e : Ended). Bounded (runsOf numbers ends masks q) (getD thresholds q 0) (a .left .probes) (e .events) (e .refused) (length (partsOf (e .events)))
       (probesOf (e .events)) (encode (partsOf (e .events))) (length ps))
-      (sym (a .is)) (bounded-walk (runsOf numbers ends masks q) (getD thresholds q 0) (a .left) (fits q h) ps t))
+      (sym (a .is)) (bounded-walk (runsOf numbers ends masks q) (getD thresholds q 0) (a .left) (question-fit q h) ps t))
 
   parts-are : (q : ℕ) → q < length ws
       → partsOfQuestion (manyOutcome c (eventsOf ws)) (length (wholeCertificate (getD thresholds q 0) (runsOf numbers ends masks q))) q
@@ -139,31 +139,49 @@ module _ (numbers ends masks thresholds : List ℕ) (allowance : ℕ) (answers c
       made q h =
           bounded q h (wholeCertificate (getD thresholds q 0) (runsOf numbers ends masks q)) (certified q h .whole-true) .sum
 
-  -- an allowance of the sum of all bounds is never spent
-  module _ (ps : ℕ → List Part) (true-each : (q : ℕ) → q < length masks → TrueCertificate (runsOf numbers ends masks q) (getD thresholds q 0) (ps q))
-      (large : sumTo (length masks) (λ q. bound (length (ps q)) (runsOf numbers ends masks q)) ≤ allowance) where
-    made-few : (q : ℕ) → q < length ws → probesOf (walkOf ws q) ≤ bound (length (ps q)) (runsOf numbers ends masks q)
-    unfolding bound
+  -- Given a bound of each run's probes in each question, an allowance no smaller than their sum is never spent.
+  module _ (b : ℕ → Run → ℕ)
+      (each-run : (q : ℕ) → q < length ws → (r : Run) → List·Memᴰ r (runsOf numbers ends masks q)
+      → probesIn (r .label) (wholeWalk (getD thresholds q 0) (runsOf numbers ends masks q)) ≤ b q r)
+      (large : sumTo (length masks) (λ q. total (b q) (runsOf numbers ends masks q)) ≤ allowance) where
+    made-few : (q : ℕ) → q < length ws → probesOf (walkOf ws q) ≤ total (b q) (runsOf numbers ends masks q)
+    unfolding runsOf walkOf
     made-few q h =
-        let f = fewer c end in
-        let b = bounded q h (ps q) (true-each q (omega arith)) in
-        let s = b .sum in
-        let k = total-le _ _ (runsOf numbers ends masks q) (b .each) in
+        let a = begun q h in
+        let k = total-le (λ r. probesIn (r .label) (cut (a .left) (wholeWalk (getD thresholds q 0) (runsOf numbers ends masks q)) .events)) (b q) (runsOf numbers ends masks q)
+        (λ r m. le-trans (cut-bound (runsOf numbers ends masks q) (getD thresholds q 0) (a .left) r) (each-run q h r m)) in
+        let s = sum-made (runsOf numbers ends masks q) (getD thresholds q 0) (a .left) (question-fit q h) in
+        let e = ap (λ (x : Ended). probesOf (x .events)) (a .is) in
         omega arith
 
     unspent : (q : ℕ) → q < length ws → getD ws q unbegun .refused ≢ 7
-    unspent q h =
+    unfolding runsOf
+    unspent q h e =
+        let a = begun q h in
         let f = fewer c end in
-        let b = bounded q h (ps q) (true-each q (omega arith)) in
-        let s = sum-le q (λ i. probesOf (walkOf ws i)) (λ i. bound (length (ps i)) (runsOf numbers ends masks i)) (λ i l. made-few i (omega arith)) in
-        let u = sum-suc q (λ i. bound (length (ps i)) (runsOf numbers ends masks i)) in
-        let v = sum-more (suc q) (length masks) (λ i. bound (length (ps i)) (runsOf numbers ends masks i)) (omega arith) in
-        b .enough (omega (arith, large))
+        let p₁ = a .probes in
+        let s = sum-le q (λ i. probesOf (walkOf ws i)) (λ i. total (b i) (runsOf numbers ends masks i)) (λ i l. made-few i (omega arith)) in
+        let u = sum-suc q (λ i. total (b i) (runsOf numbers ends masks i)) in
+        let v = sum-more (suc q) (length masks) (λ i. total (b i) (runsOf numbers ends masks i)) (omega arith) in
+        cut-unspent (runsOf numbers ends masks q) (getD thresholds q 0) (a .left) (question-fit q h) (b q) (each-run q h) (omega (arith, large))
+        (sym (ap (λ (x : Ended). x .refused) (a .is)) ∙ e)
 
     never-spent : (d : ManyCheck) → Ending 0 ws (length masks) d → callRefusedBy (manyOutcome d (eventsOf ws)) ≢ 7
     unfolding callRefusedBy manyOutcome
     never-spent d (finished l f) e = omega arith
     never-spent d (stopped j k x i l m f g) e = unspent j (omega arith) (g ∙ e)
+
+    pub many-unspent : callRefusedBy (queryMany numbers ends masks thresholds allowance answers certificate results .outcome) ≢ 7
+    unfolding queryMany answeredMany ws c
+    many-unspent = rw (checked, queryMany) (never-spent c end)
+
+  -- so it is with the bounds by certificates of each question's chosen runs
+  bounds-enough : (ps : ℕ → List Part) → ((q : ℕ) → q < length masks → TrueCertificate (runsOf numbers ends masks q) (getD thresholds q 0) (ps q))
+      → sumTo (length masks) (λ q. bound (length (ps q)) (runsOf numbers ends masks q)) ≤ allowance → callRefusedBy (manyOutcome c (eventsOf ws)) ≢ 7
+  unfolding bound
+  bounds-enough ps t l =
+      never-spent (λ q. boundIn (length (ps q)))
+      (λ q h. let f = fewer c end in bounded q h (ps q) (t q (omega arith)) .each-whole) l c end
 
   pub certified-many : (q : ℕ) → q < begunOf (length masks) (queryMany numbers ends masks thresholds allowance answers certificate results .outcome)
       → Certified (runsOf numbers ends masks q) (getD thresholds q 0) (endedBy (queryMany numbers ends masks thresholds allowance answers certificate results .outcome) q)
@@ -189,7 +207,7 @@ module _ (numbers ends masks thresholds : List ℕ) (allowance : ℕ) (answers c
   unfolding queryMany answeredMany ws c
   bounded-many ps t =
       rw (checked, queryMany)
-      (record { each = bounded-each ps t; parts = parts-sum; probes = probes-sum; enough = λ l. never-spent ps t l c end })
+      (record { each = bounded-each ps t; parts = parts-sum; probes = probes-sum; enough = bounds-enough ps t })
 
 pub many-demand2 : (numbers ends masks thresholds : List ℕ) (allowance : ℕ) (answers certificate results : List ℕ) → Fits pastBin numbers
     → ManyDemand2 numbers ends masks thresholds results (queryMany numbers ends masks thresholds allowance answers certificate results .outcome)
