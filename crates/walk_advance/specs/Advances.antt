@@ -5,7 +5,7 @@ use mathlib.Core.Path.{_≡_}
 use Rattle.model.specs.Rows.{below}
 use Rattle.model.specs.Runs.{pastBin}
 use Rattle.model.specs.Walk.{tthHead}
-use Rattle.walk_state.specs.State.{runsAt}
+use Rattle.walk_state.specs.State.{chosenAt}
 use Rattle.walk_write.specs.declared.Turn.{Turn}
 use Rattle.walk_write.specs.declared.Turn.the-variants.{On, Done, Stopped}
 
@@ -15,8 +15,8 @@ Raises floor (On w′) = floor < w′ .floor
 Raises floor (Done w′) = Unit
 Raises floor (Stopped x w′) = Unit
 
--- v is the t-th smallest head, and runs enough have one
-pub record Advances (numbers ends positions : List ℕ) (t v : ℕ) : Type 0 where
+-- v is the t-th smallest head of the chosen runs, and enough of them have one
+pub record Advances (chosen : ℕ) (numbers ends positions : List ℕ) (t v : ℕ) : Type 0 where
   pub bin : v < pastBin
-  pub left : t ≤ below pastBin (runsAt 0 numbers positions ends)
-  pub tth : tthHead t (runsAt 0 numbers positions ends) ≡ v
+  pub left : t ≤ below pastBin (chosenAt chosen numbers positions ends)
+  pub tth : tthHead t (chosenAt chosen numbers positions ends) ≡ v

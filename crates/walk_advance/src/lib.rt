@@ -1,18 +1,19 @@
-// A round from the t-th smallest head v on (docs/SPECIFICATION.md, 'The walk'): the gap before v, the searches for v, and then the answer.
+// A round from the t-th smallest head v of the chosen runs on (docs/SPECIFICATION.md, 'The walk'): the gap before v, the searches for v, and then the answer.
 ghost use Rattle.model.specs.Walk.{round, walk};
-ghost use Rattle.walk_state.specs.State.{runsAt};
+ghost use Rattle.walk_state.specs.State.{chosenAt};
 ghost use Rattle.walk_write.specs.Writes.{Fitted};
-ghost use Rattle.walk_settle.specs.Turns.{Stands, Goes};
+ghost use Rattle.walk_settle.specs.Turns.{Stands, Chooses, Goes};
 ghost use Rattle.walk_advance.specs.Advances.{Raises, Advances};
 use walk_searches::Moved;
 use walk_write::State;
 use walk_write::Turn;
 use walk_write::Wrote;
 
-// A round from the t-th smallest head v on: the gap before v, the searches for v, and the answer.
+// A round from the t-th smallest head v of the chosen runs on: the gap before v, the searches for v, and the answer.
 pub fn advance(
     numbers: &[u32],
     ends: &[u32],
+    chosen: u64,
     threshold: usize,
     positions: &mut [u32],
     keys: &mut [u64],
@@ -21,14 +22,13 @@ pub fn advance(
     v: u32,
     w: State,
 ) -> Turn
-    requires { ⌜ Stands (now numbers) (now ends) (now positions) (now keys) threshold w × Fitted (now answers) (now certificate) w × Advances (now numbers) (now ends) (now positions) threshold v ⌝ }
-    ensures goes { λ r. ⌜ Goes (λ n. round (walk n threshold) threshold (w .floor) (runsAt 0 (now (numbers .entry)) (now (positions .entry)) (now (ends .entry)))) (now (numbers .entry)) (now (ends .entry)) threshold w (now (answers .entry)) (now (certificate .entry)) (now (positions .exit)) (now (keys .exit)) (now (answers .exit)) (now (certificate .exit)) r ⌝ }
+    requires { ⌜ Stands (now numbers) (now ends) (now positions) (now keys) threshold w × Chooses chosen (now numbers) (now ends) (now positions) threshold × Fitted (now answers) (now certificate) w × Advances chosen (now numbers) (now ends) (now positions) threshold v ⌝ }
+    ensures goes { λ r. ⌜ Goes (λ n. round (walk n threshold) threshold (w .floor) (chosenAt chosen (now (numbers .entry)) (now (positions .entry)) (now (ends .entry)))) chosen (now (numbers .entry)) (now (ends .entry)) threshold w (now (answers .entry)) (now (certificate .entry)) (now (positions .exit)) (now (keys .exit)) (now (answers .exit)) (now (certificate .exit)) r ⌝ }
     ensures raises { λ r. ⌜ Raises (w .floor) r ⌝ }
 {
     let front = walk_keys::front(keys, w.start, arith::u64_of_u32(v) * 256);
     let named = front.named;
-    let Wrote::On(x) = walk_write::gap_before(certificate, w, v, mask::all_runs(ends.len()) - named)
-    else {
+    let Wrote::On(x) = walk_write::gap_before(certificate, w, v, chosen - named) else {
         return Turn::Stopped(6, w);
     };
     let Moved::On { start, left } = walk_searches::search_runs(

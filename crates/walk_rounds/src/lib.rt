@@ -1,7 +1,7 @@
-// Rounds of the walk until one ends it (docs/SPECIFICATION.md, 'The walk').
-ghost use Rattle.walk_state.specs.State.{runsAt};
+// Rounds of the walk over the chosen runs until one ends it (docs/SPECIFICATION.md, 'The walk').
+ghost use Rattle.walk_state.specs.State.{chosenAt};
 ghost use Rattle.walk_write.specs.Writes.{Fitted};
-ghost use Rattle.walk_settle.specs.Turns.{Stands};
+ghost use Rattle.walk_settle.specs.Turns.{Stands, Chooses};
 ghost use Rattle.walk_rounds.specs.Ends.{Finishes};
 use walk_write::State;
 use walk_write::Turn;
@@ -16,6 +16,7 @@ pub struct End {
 pub fn all_rounds(
     numbers: &[u32],
     ends: &[u32],
+    chosen: u64,
     threshold: usize,
     positions: &mut [u32],
     keys: &mut [u64],
@@ -23,14 +24,15 @@ pub fn all_rounds(
     certificate: &mut [u8],
     w: State,
 ) -> End
-    requires { ⌜ Stands (now numbers) (now ends) (now positions) (now keys) threshold w × Fitted (now answers) (now certificate) w ⌝ }
-    ensures { λ r. ⌜ Finishes (runsAt 0 (now (numbers .entry)) (now (positions .entry)) (now (ends .entry))) threshold w (now (answers .entry)) (now (certificate .entry)) (now (answers .exit)) (now (certificate .exit)) r ⌝ }
+    requires { ⌜ Stands (now numbers) (now ends) (now positions) (now keys) threshold w × Chooses chosen (now numbers) (now ends) (now positions) threshold × Fitted (now answers) (now certificate) w ⌝ }
+    ensures { λ r. ⌜ Finishes (chosenAt chosen (now (numbers .entry)) (now (positions .entry)) (now (ends .entry))) threshold w (now (answers .entry)) (now (certificate .entry)) (now (answers .exit)) (now (certificate .exit)) r ⌝ }
 {
     let mut x = w;
     loop {
         match walk_round::round(
             numbers,
             ends,
+            chosen,
             threshold,
             positions,
             keys,

@@ -15,7 +15,7 @@ use Rattle.model.specs.Walk.{head, headOf, movedOn}
 use Rattle.model.proofs.Count.{total-eq, count-eq}
 use Rattle.model.specs.Rows.{Rise, below, equal, Ordered}
 use Rattle.model.proofs.From.{from-past-head, from-other-head, rise-from, head-least}
-use Rattle.model.proofs.Masks.{Labelled, mask-only}
+use Rattle.model.proofs.Masks.{Ascending, ascending, label-below, mask-only}
 use Rattle.model.proofs.Tests.{both, eq-or-ne}
 use Rattle.model.proofs.Walking.{past-last, map-same, map-mem}
 use Rattle.walk_keys.proofs.Row.{ordered-drop, below-le}
@@ -35,17 +35,17 @@ module _ (numbers ends positions keys : List ℕ) (start : ℕ) (few : length en
   abbrev rs : List Run
   rs = runsAt 0 numbers positions ends
 
-  pub labels : Labelled 0 rs
-  labels = runs-at-labels 0 numbers positions ends
+  pub labels : Ascending 0 rs
+  labels = ascending (runs-at-labels 0 numbers positions ends)
 
   pub number : length rs ≡ length ends
   number = runs-at-length 0 numbers positions ends (h .inside .lengths)
 
-  pub few-runs : length rs ≤ mostRuns
-  few-runs = let n = number in omega arith
+  pub small : (r : Run) → List·Memᴰ r rs → r .label < mostRuns
+  small r m = let n = number in let l = label-below rs (runs-at-labels 0 numbers positions ends) r m in omega arith
 
   pub front-asks : (start ≤ length keys) × Labels (drop start keys) × (labelSum (drop start keys) < 2 ^ maskBits)
-  front-asks = (h .starts, row-labels rs labels few-runs (drop start keys) (h .order), row-sum rs labels few-runs (drop start keys) (h .order))
+  front-asks = (h .starts, row-labels rs labels small (drop start keys) (h .order), row-sum rs labels small (drop start keys) (h .order))
 
   -- a front taken out
   pub taken-out : (u : ℕ) → u ≤ pastBin → (n named : ℕ) → n ≡ belowCount (u * 256) (drop start keys) → named ≡ mask (λ r. ltb (head r) u) rs
@@ -65,8 +65,8 @@ module _ (numbers ends positions keys : List ℕ) (start : ℕ) (few : length en
         ordered = subst (λ x. Ordered 0 x) (sym w) (ordered-drop (belowCount (u * 256) (drop start keys)) (drop start keys) (h .order .ordered));
         same = λ g.
             ap (sumOf g) w
-            ∙ (rest-same rs labels few-runs (drop start keys) (h .order) u b g ∙ ap (λ x. total (notNamed x (weigh g)) rs) (sym f));
-        only = subst (λ x. named < 2 ^ x) number (subst (λ x. x < 2 ^ length rs) (sym f) (mask-only (λ r. ltb (head r) u) rs labels));
+            ∙ (rest-same rs labels small (drop start keys) (h .order) u b g ∙ ap (λ x. total (notNamed x (weigh g)) rs) (sym f));
+        only = subst (λ x. named < 2 ^ x) number (subst (λ x. x < 2 ^ length rs) (sym f) (mask-only (λ r. ltb (head r) u) rs (runs-at-labels 0 numbers positions ends)));
       }
 
 -- ---- at the floor
@@ -121,7 +121,7 @@ module _ (numbers ends positions keys : List ℕ) (t : ℕ) (w : State) (n named
   names-equal : (r : Run) → List·Memᴰ r runs′ → names named r ≡ eqb (head r) (w .floor)
   names-equal r m =
       ap (λ x. names x r) (a .names-them ∙ sym (floor-mask (w .floor) runs′ heads))
-      ∙ (front-names runs′ (labels numbers ends positions keys (w .start) (s .few) (s .holds)) (few-runs numbers ends positions keys (w .start) (s .few) (s .holds))
+      ∙ (front-names runs′ (labels numbers ends positions keys (w .start) (s .few) (s .holds)) (small numbers ends positions keys (w .start) (s .few) (s .holds))
       (drop (w .start) keys) (s .holds .order) (w .floor + 1) r m
       ∙ at-floor (w .floor) (head r) (heads r m))
 
@@ -151,7 +151,6 @@ module _ (numbers ends positions keys : List ℕ) (t : ℕ) (w : State) (n named
         record {
           few = s .few;
           some = s .some;
-          enough = s .enough;
           holds = subst (λ x. Holds numbers ends positions′ keys′ start x) j h;
           rising = λ r k.
               let p = map-mem (movedOn (w .floor)) runs′ r (subst (λ x. List·Memᴰ r x) i k) in

@@ -1,9 +1,10 @@
 -- What the steps of a round ask and give: from the state and the buffers before to those after, what the question comes to stays the same.
 -- Definitions only.
-use Prim.Native.Nat.{ℕ, suc, _+_, _-_, _*_, _≤_, _<_}
+use Prim.Native.Nat.{ℕ, suc, _+_, _-_, _*_, _^_, _≤_, _<_}
 use mathlib.Core.List.{List, map, List·Memᴰ}
 use mathlib.Core.Logic.{_⊎_}
 use mathlib.Core.Path.{_≡_}
+use lib.Count.{ones}
 use lib.Dec.{eqb}
 use lib.ListN.{length, drop}
 use Rattle.model.specs.Rows.{Rise, equal}
@@ -13,28 +14,33 @@ use Rattle.walk_keys.specs.Row.{belowCount}
 use Rattle.walk_write.specs.declared.State.{State}
 use Rattle.walk_write.specs.declared.Turn.{Turn}
 use Rattle.walk_write.specs.declared.Turn.the-variants.{On, Done, Stopped}
-use Rattle.walk_state.specs.State.{runsAt, Holds}
+use Rattle.walk_state.specs.State.{runsAt, chosenAt, Holds, Idle}
 use Rattle.walk_write.specs.Writes.{countsOf, goesOn, endsWith, Fitted}
 
 -- a state before a round: the rows hold the runs, which rise from the floor on
 pub record Stands (numbers ends positions keys : List ℕ) (t : ℕ) (w : State) : Type 0 where
   pub few : length ends ≤ mostRuns
   pub some : 0 < t
-  pub enough : t ≤ length ends
   pub holds : Holds numbers ends positions keys (w .start) (runsAt 0 numbers positions ends)
   pub rising : (r : Run) → List·Memᴰ r (runsAt 0 numbers positions ends) → Rise (w .floor) (r .bins)
   pub bin : w .floor < pastBin
 
--- what a walk comes to after these events, of which the last are rounds of any number
-abbrev pub Goes : (ℕ → List Event) → List ℕ → List ℕ → ℕ → State → List ℕ → List ℕ → List ℕ → List ℕ → List ℕ → List ℕ → Turn → Type 0
-Goes es numbers ends t w answers certificate positions′ keys′ answers′ certificate′ (On w′) =
-    Stands numbers ends positions′ keys′ t w′ × Fitted answers′ certificate′ w′ × (w′ .left ≤ w .left)
+-- a mask chooses some of these runs, at least t, and no other has a number left
+pub record Chooses (m : ℕ) (numbers ends positions : List ℕ) (t : ℕ) : Type 0 where
+  pub only : m < 2 ^ length ends
+  pub enough : t ≤ ones m
+  pub idle : Idle m (runsAt 0 numbers positions ends)
+
+-- what a walk over the runs that a mask chooses comes to after these events, of which the last are rounds of any number
+abbrev pub Goes : (ℕ → List Event) → ℕ → List ℕ → List ℕ → ℕ → State → List ℕ → List ℕ → List ℕ → List ℕ → List ℕ → List ℕ → Turn → Type 0
+Goes es m numbers ends t w answers certificate positions′ keys′ answers′ certificate′ (On w′) =
+    Stands numbers ends positions′ keys′ t w′ × Chooses m numbers ends positions′ t × Fitted answers′ certificate′ w′ × (w′ .left ≤ w .left)
     × ((allowance n : ℕ) → w .left ≤ allowance → goesOn allowance w answers certificate (es n)
-    ≡ goesOn allowance w′ answers′ certificate′ (walk n t (w′ .floor) (runsAt 0 numbers positions′ ends)))
-Goes es numbers ends t w answers certificate positions′ keys′ answers′ certificate′ (Done w′) =
+    ≡ goesOn allowance w′ answers′ certificate′ (walk n t (w′ .floor) (chosenAt m numbers positions′ ends)))
+Goes es m numbers ends t w answers certificate positions′ keys′ answers′ certificate′ (Done w′) =
     (w′ .left ≤ w .left)
     × ((allowance n : ℕ) → w .left ≤ allowance → goesOn allowance w answers certificate (es n) ≡ endsWith 0 allowance w′ answers′ certificate′)
-Goes es numbers ends t w answers certificate positions′ keys′ answers′ certificate′ (Stopped x w′) =
+Goes es m numbers ends t w answers certificate positions′ keys′ answers′ certificate′ (Stopped x w′) =
     (0 < x) × (w′ .left ≤ w .left)
     × ((allowance n : ℕ) → w .left ≤ allowance → goesOn allowance w answers certificate (es n) ≡ endsWith x allowance w′ answers′ certificate′)
 

@@ -1,8 +1,9 @@
 // The end of a round (docs/SPECIFICATION.md, 'The walk'): the floor is written as an answer where runs enough hold it, and is passed.
+ghost use Prim.Native.Nat.{ℕ};
 ghost use Rattle.model.specs.Walk.{settle, walk};
-ghost use Rattle.walk_state.specs.State.{runsAt};
+ghost use Rattle.walk_state.specs.State.{runsAt, chosenAt};
 ghost use Rattle.walk_write.specs.Writes.{Fitted};
-ghost use Rattle.walk_settle.specs.Turns.{Stands, Goes, Settles, AtFloor, Passes};
+ghost use Rattle.walk_settle.specs.Turns.{Stands, Chooses, Goes, Settles, AtFloor, Passes};
 use walk_write::Answered;
 use walk_write::State;
 use walk_write::Turn;
@@ -43,7 +44,8 @@ fn pass(
     })
 }
 
-// After the searches: the floor is an answer where at least `threshold` heads equal it.
+// After the searches: the floor is an answer where at least `threshold` heads equal it. Runs that are not chosen have no head, so that this holds for every
+// choice of runs, and which they are need not be known.
 pub fn settle(
     numbers: &[u32],
     ends: &[u32],
@@ -55,7 +57,7 @@ pub fn settle(
     w: State,
 ) -> Turn
     requires { ⌜ Stands (now numbers) (now ends) (now positions) (now keys) threshold w × Fitted (now answers) (now certificate) w ⌝ }
-    ensures goes { λ r. ⌜ Goes (λ n. settle (walk n threshold) threshold (w .floor) (runsAt 0 (now (numbers .entry)) (now (positions .entry)) (now (ends .entry)))) (now (numbers .entry)) (now (ends .entry)) threshold w (now (answers .entry)) (now (certificate .entry)) (now (positions .exit)) (now (keys .exit)) (now (answers .exit)) (now (certificate .exit)) r ⌝ }
+    ensures goes { λ r. ⌜ ((m : ℕ) → Chooses m (now (numbers .entry)) (now (ends .entry)) (now (positions .entry)) threshold → Goes (λ n. settle (walk n threshold) threshold (w .floor) (chosenAt m (now (numbers .entry)) (now (positions .entry)) (now (ends .entry)))) m (now (numbers .entry)) (now (ends .entry)) threshold w (now (answers .entry)) (now (certificate .entry)) (now (positions .exit)) (now (keys .exit)) (now (answers .exit)) (now (certificate .exit)) r) ⌝ }
     ensures settles { λ r. ⌜ Settles (runsAt 0 (now (numbers .entry)) (now (positions .entry)) (now (ends .entry))) threshold (w .floor) r ⌝ }
 {
     let here = walk_keys::front(keys, w.start, (arith::u64_of_u32(w.floor) + 1) * 256);

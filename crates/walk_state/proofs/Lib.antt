@@ -1,3 +1,4 @@
+pub mod Choosing
 pub mod Going
 pub mod Moving
 pub mod Runs

@@ -1,13 +1,13 @@
 -- What the functions that move runs ask and give. Definitions only.
 use Prim.Native.Nat.{ℕ, _-_, _^_, _≤_, _<_}
-use mathlib.Core.List.{List, List·Memᴰ}
+use mathlib.Core.List.{List, [], List·Memᴰ}
 use mathlib.Core.Path.{_≡_}
 use mathlib.Core.Bool.{true, false}
 use lib.ListN.{length, drop}
-use lib.Dec.{ltb}
+use lib.Dec.{ltb, eqb}
 use mathlib.Core.Option.{none}
 use Rattle.model.specs.Refusals.{fallsFrom, lastEnd}
-use Rattle.model.specs.Runs.{Run, pastBin, names, mostRuns, maskBits}
+use Rattle.model.specs.Runs.{Run, pastBin, bit, names, mostRuns, maskBits}
 use Rattle.model.specs.Walk.{head}
 use Rattle.model.specs.Rows.{Ordered}
 use Rattle.walk_state.specs.State.{putHead, runsAt, Inside, Lacks}
@@ -82,3 +82,11 @@ pub record BeginReady (numbers ends positions : List ℕ) : Type 0 where
   pub rise : fallsFrom 0 0 ends ≡ none
   pub last : lastEnd 0 ends ≡ length numbers
   pub size : length positions ≡ length ends
+
+-- a run as it stands where a walk over the runs that a mask chooses begins: at its end where it is not chosen, so that it is never moved
+unfoldable pub standing : ℕ → Run → Run
+standing chosen r = elim (names chosen r) [ true ↦ r | false ↦ record { label = r .label; bins = [] } ]
+
+-- the place where a run from a to e begins
+unfoldable pub firstPlace : ℕ → ℕ → ℕ → ℕ → ℕ
+firstPlace chosen run a e = elim (eqb (bit chosen run) 1) [ true ↦ a | false ↦ e ]

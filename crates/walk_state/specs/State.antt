@@ -1,12 +1,12 @@
 -- The state of a walk as the code holds it: a row of positions, and a row of keys in rising order, one for each run that has a head. Definitions only.
 use Prim.Native.Nat.{ℕ, suc, _+_, _-_, _*_, _^_, _≤_, _<_}
 use mathlib.Core.Bool.{true, false}
-use mathlib.Core.List.{List, [], _∷_}
+use mathlib.Core.List.{List, [], _∷_, List·Memᴰ}
 use mathlib.Core.Path.{_≡_}
 use lib.Dec.{ltb}
 use lib.ListN.{length, getD, drop}
 use Rattle.model.specs.Rows.{Ordered}
-use Rattle.model.specs.Runs.{Run, slice, pastBin, total, names}
+use Rattle.model.specs.Runs.{Run, slice, pastBin, total, names, chosen}
 use Rattle.model.specs.Walk.{head}
 use Rattle.walk_keys.specs.Row.{insertKey, sumOf}
 
@@ -64,3 +64,11 @@ pub record Lacks (numbers ends positions keys : List ℕ) (start : ℕ) (rs : Li
   pub ordered : Ordered 0 (drop start keys)
   pub same : (g : ℕ → ℕ) → sumOf g (drop start keys) ≡ total (notNamed named (weigh g)) rs
   pub only : named < 2 ^ length ends
+
+-- no run has a number left but those that a mask chooses
+pub record Idle (chosen : ℕ) (rs : List Run) : Type 0 where
+  pub each : (r : Run) → List·Memᴰ r rs → names chosen r ≡ false → r .bins ≡ []
+
+-- the runs that a mask chooses, each at its position
+abbrev pub chosenAt : ℕ → List ℕ → List ℕ → List ℕ → List Run
+chosenAt m numbers positions ends = chosen m (runsAt 0 numbers positions ends)

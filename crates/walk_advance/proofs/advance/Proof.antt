@@ -1,6 +1,6 @@
 -- `advance` writes the gap before v, searches the runs below v, and settles v. Assumes nothing.
-use Prim.Native.Nat.{_+_, _-_, _*_, _^_}
-use lib.ListN.{length, drop}
+use Prim.Native.Nat.{_+_, _-_, _*_}
+use lib.ListN.{drop}
 use mathlib.Core.Path.{_≡_, ap, _∙_, subst}
 use native.Mathlib.Omega.{arith}
 use Rattle.walk_keys.specs.Row.{belowCount}
@@ -29,32 +29,19 @@ front-requires c κs =
     front-asks (a .numbers .now) (a .ends .now) (a .positions .now) (a .keys .now) (a .w .start) (s .pre .0 .few) (s .pre .0 .holds)
 
 -- how many heads are below v
-counts : (c : tie.After-front) → (let a = c .before .before .before .before .before .before .before .before .before .args in c .front .result .count ≡ belowCount (a .v * 256) (drop (a .w .start) (a .keys .now)))
-counts c = let a = c .before .before .before .before .before .before .before .before .before .args in c .front .ensures .0 ∙ ap (λ x. belowCount (x * 256) (drop (a .w .start) (a .keys .now))) (c .before .u64-of-u32 .ensures)
-
-all-runs-requires : tie.Need-all-runs-requires
-all-runs-requires c κs = search needs
+counts : (c : tie.After-front)
+    → (let a = c .before .before .before .before .before .before .before .before .before .args in c .front .result .count ≡ belowCount (a .v * 256) (drop (a .w .start) (a .keys .now)))
+counts c =
+    let a = c .before .before .before .before .before .before .before .before .before .args in
+    c .front .ensures .0 ∙ ap (λ x. belowCount (x * 256) (drop (a .w .start) (a .keys .now))) (c .before .u64-of-u32 .ensures)
 
 sub-gap-before : tie.Need-sub-gap-before
 sub-gap-before c =
-    let s = c .before .before .before .before .before .before .before .before .before .before .before in
+    let f = c .before in
+    let s = f .before .before .before .before .before .before .before .before .before in
     let a = s .args in
-    let f = c .before .before in
-    let m = named-small (a .numbers .now) (a .ends .now) (a .positions .now) (a .keys .now) (a .answers .now) (a .certificate .now) (a .threshold) (a .v) (a .w) (f .front .result .count)
-    (f .front .result .named) (s .pre .0) (s .pre .1) (s .pre .2) (counts f) (f .front .ensures .1) in
-    let e = c .all-runs .ensures in
-    omega arith
-
--- what the gap comes to
-gap-written : (c : tie.After-gap-before)
-    → (let a = c .before .before .before .before .before .before .before .before .before .before .before .before .args in
-    let f = c .before .before .before in
-    Writes (gapEvents (a .w .floor) (a .v) (2 ^ length (a .ends .now) - 1 - f .front .result .named)) (a .w) (a .certificate .now) (c .gap-before .last .0) (c .gap-before .result))
-gap-written c =
-    let a = c .before .before .before .before .before .before .before .before .before .before .before .before .args in
-    let f = c .before .before .before in
-    subst (λ x. Writes (gapEvents (a .w .floor) (a .v) (x - f .front .result .named)) (a .w) (a .certificate .now) (c .gap-before .last .0) (c .gap-before .result))
-    (c .before .all-runs .ensures) (c .gap-before .ensures)
+    named-small (a .numbers .now) (a .ends .now) (a .positions .now) (a .keys .now) (a .answers .now) (a .certificate .now) (a .chosen) (a .threshold) (a .v) (a .w)
+    (f .front .result .count) (f .front .result .named) (s .pre .0) (s .pre .1) (s .pre .2) (s .pre .3) (counts f) (f .front .ensures .1)
 
 gap-before-requires : tie.Need-gap-before-requires
 gap-before-requires c κs = search needs
@@ -73,48 +60,47 @@ same-length-2 c = search needs
 
 returns : tie.Need-returns
 returns c =
-    let s = c .before .before .before .before .before .before .before .before .before .before .before .before .before .before .before .before in
-    let a = s .args in
-    let f = c .before .before .before .before .before .before .before in
     let g = c .before .before .before .before in
-    gap-stops (a .numbers .now) (a .ends .now) (a .positions .now) (a .keys .now) (a .answers .now) (a .certificate .now) (a .threshold) (a .v) (a .w) (f .front .result .count)
-    (f .front .result .named) (s .pre .0) (s .pre .1) (s .pre .2) (counts f) (f .front .ensures .1)
-    (g .gap-before .last .0)
-    (subst (λ y. Writes (gapEvents (a .w .floor) (a .v) (2 ^ length (a .ends .now) - 1 - f .front .result .named)) (a .w) (a .certificate .now) (g .gap-before .last .0) y)
-    (c .enum-told .given .1) (gap-written g))
-
-ready : (c : tie.After-front)
-    → (let a = c .before .before .before .before .before .before .before .before .before .args in
-    SearchReady (a .numbers .now) (a .ends .now) (a .positions .now) (a .keys .now) (a .w .start + c .front .result .count) (c .front .result .named) (a .v))
-ready c =
-    let s = c .before .before .before .before .before .before .before .before .before in
+    let f = g .before .before in
+    let s = f .before .before .before .before .before .before .before .before .before in
     let a = s .args in
-    let f = c in
-    search-ready (a .numbers .now) (a .ends .now) (a .positions .now) (a .keys .now) (a .answers .now) (a .certificate .now) (a .threshold) (a .v) (a .w) (f .front .result .count)
-    (f .front .result .named) (s .pre .0) (s .pre .1) (s .pre .2) (counts f) (f .front .ensures .1)
+    gap-stops (a .numbers .now) (a .ends .now) (a .positions .now) (a .keys .now) (a .answers .now) (a .certificate .now) (a .chosen) (a .threshold) (a .v) (a .w)
+    (f .front .result .count) (f .front .result .named) (s .pre .0) (s .pre .1) (s .pre .2) (s .pre .3) (counts f) (f .front .ensures .1) (g .gap-before .last .0)
+    (subst (λ y. Writes (gapEvents (a .w .floor) (a .v) (a .chosen - f .front .result .named)) (a .w) (a .certificate .now) (g .gap-before .last .0) y)
+    (c .enum-told .given .1) (g .gap-before .ensures))
+
+ready : (f : tie.After-front)
+    → (let a = f .before .before .before .before .before .before .before .before .before .args in
+    SearchReady (a .numbers .now) (a .ends .now) (a .positions .now) (a .keys .now) (a .w .start + f .front .result .count) (f .front .result .named) (a .v))
+ready f =
+    let s = f .before .before .before .before .before .before .before .before .before in
+    let a = s .args in
+    search-ready (a .numbers .now) (a .ends .now) (a .positions .now) (a .keys .now) (a .answers .now) (a .certificate .now) (a .chosen) (a .threshold) (a .v) (a .w)
+    (f .front .result .count) (f .front .result .named) (s .pre .0) (s .pre .1) (s .pre .2) (s .pre .3) (counts f) (f .front .ensures .1)
 
 add-search-runs : tie.Need-add-search-runs
 add-search-runs c =
-    let r = ready (c .before .before .before .before .before .before .before .before .before .before .before .before) .lacks .starts in
-    let k = ready (c .before .before .before .before .before .before .before .before .before .before .before .before) .lacks .size in
-    let l = ready (c .before .before .before .before .before .before .before .before .before .before .before .before) .few in
+    let f = c .before .before .before .before .before .before .before .before .before .before .before in
+    let r = ready f .lacks .starts in
+    let k = ready f .lacks .size in
+    let l = ready f .few in
     omega arith
 
 search-runs-requires : tie.Need-search-runs-requires
-search-runs-requires c κs = ready (c .before .before .before .before .before .before .before .before .before .before .before .before)
+search-runs-requires c κs = ready (c .before .before .before .before .before .before .before .before .before .before .before)
 
 -- the gap is written
 gap-on : (c : tie.After-x)
-    → (let a = c .before .before .before .before .before .before .before .before .before .before .before .before .before .before .before .before .args in
-    let f = c .before .before .before .before .before .before .before in
-    let g = c .before .before .before .before in
-    Writes (gapEvents (a .w .floor) (a .v) (2 ^ length (a .ends .now) - 1 - f .front .result .named)) (a .w) (a .certificate .now) (g .gap-before .last .0) (On (c .x .given .0 .0)))
+    → (let g = c .before .before .before .before in
+    let f = g .before .before in
+    let a = f .before .before .before .before .before .before .before .before .before .args in
+    Writes (gapEvents (a .w .floor) (a .v) (a .chosen - f .front .result .named)) (a .w) (a .certificate .now) (g .gap-before .last .0) (On (c .x .given .0 .0)))
 gap-on c =
-    let a = c .before .before .before .before .before .before .before .before .before .before .before .before .before .before .before .before .args in
-    let f = c .before .before .before .before .before .before .before in
     let g = c .before .before .before .before in
-    subst (λ y. Writes (gapEvents (a .w .floor) (a .v) (2 ^ length (a .ends .now) - 1 - f .front .result .named)) (a .w) (a .certificate .now) (g .gap-before .last .0) y)
-    (c .x .given .1) (gap-written g)
+    let f = g .before .before in
+    let a = f .before .before .before .before .before .before .before .before .before .args in
+    subst (λ y. Writes (gapEvents (a .w .floor) (a .v) (a .chosen - f .front .result .named)) (a .w) (a .certificate .now) (g .gap-before .last .0) y)
+    (c .x .given .1) (g .gap-before .ensures)
 
 enum-known-start : tie.Need-enum-known-start
 enum-known-start c = search needs
@@ -133,43 +119,43 @@ same-length-5 c = search needs
 
 returns-2 : tie.Need-returns-2
 returns-2 c =
-    let s = c .before .before .before .before .before .before .before .before .before .before .before .before .before .before .before .before .before .before .before .before .before .before .before .before .before .before .before .before in
-    let a = s .args in
-    let f = c .before .before .before .before .before .before .before .before .before .before .before .before .before .before .before .before .before .before .before in
-    let g = c .before .before .before .before .before .before .before .before .before .before .before .before .before .before .before .before in
-    let x = c .before .before .before .before .before .before .before .before .before .before .before .before in
     let u = c .before .before .before .before .before .before in
-    searches-stop (a .numbers .now) (a .ends .now) (a .positions .now) (a .keys .now) (a .answers .now) (a .certificate .now) (a .threshold) (a .v) (a .w) (f .front .result .count)
-    (f .front .result .named) (s .pre .0) (s .pre .1) (s .pre .2) (counts f) (f .front .ensures .1)
+    let x = u .before .before .before .before .before .before in
+    let g = x .before .before .before .before in
+    let f = g .before .before in
+    let s = f .before .before .before .before .before .before .before .before .before in
+    let a = s .args in
+    searches-stop (a .numbers .now) (a .ends .now) (a .positions .now) (a .keys .now) (a .answers .now) (a .certificate .now) (a .chosen) (a .threshold) (a .v) (a .w)
+    (f .front .result .count) (f .front .result .named) (s .pre .0) (s .pre .1) (s .pre .2) (s .pre .3) (counts f) (f .front .ensures .1)
     (x .x .given .0 .0) (g .gap-before .last .0) (gap-on x) (u .search-runs .last .1 .1 .0) (u .search-runs .last .1 .1 .1 .0)
     (subst (λ y. SearchedRuns (a .numbers .now) (a .ends .now) (runsAt 0 (a .numbers .now) (a .positions .now) (a .ends .now)) (a .v) (x .x .given .0 .0 .left)
     (u .search-runs .last .1 .1 .0) (u .search-runs .last .1 .1 .1 .0) y) (c .enum-told2 .given .1) (u .search-runs .ensures))
 
 -- the searches are made
 searched-on : (c : tie.After-start)
-    → (let a = c .before .before .before .before .before .before .before .before .before .before .before .before .before .before .before .before .before .before .before .before .before .before .before .before .before .before .before .before .args in
-    let x = c .before .before .before .before .before .before .before .before .before .before .before .before in
-    let u = c .before .before .before .before .before .before in
+    → (let u = c .before .before .before .before .before .before in
+    let x = u .before .before .before .before .before .before in
+    let a = x .before .before .before .before .before .before .before .before .before .before .before .before .before .before .before .args in
     SearchedRuns (a .numbers .now) (a .ends .now) (runsAt 0 (a .numbers .now) (a .positions .now) (a .ends .now)) (a .v) (x .x .given .0 .0 .left)
     (u .search-runs .last .1 .1 .0) (u .search-runs .last .1 .1 .1 .0) (moved.On (c .start .given .0 .0) (c .start .given .0 .1 .0)))
 searched-on c =
-    let a = c .before .before .before .before .before .before .before .before .before .before .before .before .before .before .before .before .before .before .before .before .before .before .before .before .before .before .before .before .args in
-    let x = c .before .before .before .before .before .before .before .before .before .before .before .before in
     let u = c .before .before .before .before .before .before in
+    let x = u .before .before .before .before .before .before in
+    let a = x .before .before .before .before .before .before .before .before .before .before .before .before .before .before .before .args in
     subst (λ y. SearchedRuns (a .numbers .now) (a .ends .now) (runsAt 0 (a .numbers .now) (a .positions .now) (a .ends .now)) (a .v) (x .x .given .0 .0 .left)
     (u .search-runs .last .1 .1 .0) (u .search-runs .last .1 .1 .1 .0) y) (c .start .given .1) (u .search-runs .ensures)
 
 settle-requires : tie.Need-settle-requires
 settle-requires c κs =
-    let s = c .before .before .before .before .before .before .before .before .before .before .before .before .before .before .before .before .before .before .before .before .before .before .before .before .before .before .before .before .before .before .before .before .before in
-    let a = s .args in
-    let f = c .before .before .before .before .before .before .before .before .before .before .before .before .before .before .before .before .before .before .before .before .before .before .before .before in
-    let g = c .before .before .before .before .before .before .before .before .before .before .before .before .before .before .before .before .before .before .before .before .before in
-    let x = c .before .before .before .before .before .before .before .before .before .before .before .before .before .before .before .before .before in
-    let u = c .before .before .before .before .before .before .before .before .before .before .before in
     let m = c .before .before .before .before .before in
-    stands-there (a .numbers .now) (a .ends .now) (a .positions .now) (a .keys .now) (a .answers .now) (a .certificate .now) (a .threshold) (a .v) (a .w) (f .front .result .count)
-    (f .front .result .named) (s .pre .0) (s .pre .1) (s .pre .2) (counts f) (f .front .ensures .1)
+    let u = m .before .before .before .before .before .before in
+    let x = u .before .before .before .before .before .before in
+    let g = x .before .before .before .before in
+    let f = g .before .before in
+    let s = f .before .before .before .before .before .before .before .before .before in
+    let a = s .args in
+    stands-there (a .numbers .now) (a .ends .now) (a .positions .now) (a .keys .now) (a .answers .now) (a .certificate .now) (a .chosen) (a .threshold) (a .v) (a .w)
+    (f .front .result .count) (f .front .result .named) (s .pre .0) (s .pre .1) (s .pre .2) (s .pre .3) (counts f) (f .front .ensures .1)
     (x .x .given .0 .0) (g .gap-before .last .0) (gap-on x) (u .search-runs .last .1 .1 .0) (u .search-runs .last .1 .1 .1 .0)
     (m .start .given .0 .0) (m .start .given .0 .1 .0) (searched-on m)
 
@@ -183,20 +169,23 @@ same-length-8 : tie.Need-same-length-8
 same-length-8 c = search needs
 
 same-length-9 : tie.Need-same-length-9
-same-length-9 c = c .before .before .before .before .before .before .before .before .settle .kept .1 .1 .1 .1 .1 .1 .0 ∙ c .before .before .before .before .before .before .before .before .before .before .before .before .before .before .before .before .before .before .before .before .before .before .before .before .before .before .before .before .before .before .gap-before .kept .0
+same-length-9 c =
+    let e = c .before .before .before .before .before .before .before .before in
+    let g = e .before .before .before .before .before .before .before .before .before .before .before .before .before .before .before .before .before .before .before .before .before .before in
+    e .settle .kept .1 .1 .1 .1 .1 .1 .0 ∙ g .gap-before .kept .0
 
 returns-3 : tie.Need-returns-3
 returns-3 c =
-    let s = c .before .before .before .before .before .before .before .before .before .before .before .before .before .before .before .before .before .before .before .before .before .before .before .before .before .before .before .before .before .before .before .before .before .before .before .before .before .before .before .before .before .before in
-    let a = s .args in
-    let f = c .before .before .before .before .before .before .before .before .before .before .before .before .before .before .before .before .before .before .before .before .before .before .before .before .before .before .before .before .before .before .before .before .before in
-    let g = c .before .before .before .before .before .before .before .before .before .before .before .before .before .before .before .before .before .before .before .before .before .before .before .before .before .before .before .before .before .before in
-    let x = c .before .before .before .before .before .before .before .before .before .before .before .before .before .before .before .before .before .before .before .before .before .before .before .before .before .before in
-    let u = c .before .before .before .before .before .before .before .before .before .before .before .before .before .before .before .before .before .before .before .before in
-    let m = c .before .before .before .before .before .before .before .before .before .before .before .before .before .before in
     let e = c .before .before .before .before .before .before .before .before in
-    then-settles (a .numbers .now) (a .ends .now) (a .positions .now) (a .keys .now) (a .answers .now) (a .certificate .now) (a .threshold) (a .v) (a .w) (f .front .result .count)
-    (f .front .result .named) (s .pre .0) (s .pre .1) (s .pre .2) (counts f) (f .front .ensures .1)
+    let m = e .before .before .before .before .before .before in
+    let u = m .before .before .before .before .before .before in
+    let x = u .before .before .before .before .before .before in
+    let g = x .before .before .before .before in
+    let f = g .before .before in
+    let s = f .before .before .before .before .before .before .before .before .before in
+    let a = s .args in
+    then-settles (a .numbers .now) (a .ends .now) (a .positions .now) (a .keys .now) (a .answers .now) (a .certificate .now) (a .chosen) (a .threshold) (a .v) (a .w)
+    (f .front .result .count) (f .front .result .named) (s .pre .0) (s .pre .1) (s .pre .2) (s .pre .3) (counts f) (f .front .ensures .1)
     (x .x .given .0 .0) (g .gap-before .last .0) (gap-on x) (u .search-runs .last .1 .1 .0) (u .search-runs .last .1 .1 .1 .0)
     (m .start .given .0 .0) (m .start .given .0 .1 .0) (searched-on m)
     (e .settle .last .1 .1 .1 .0) (e .settle .last .1 .1 .1 .1 .0) (e .settle .last .1 .1 .1 .1 .1 .0) (e .settle .last .1 .1 .1 .1 .1 .1 .0)
@@ -209,7 +198,6 @@ advance-spec =
     u64-of-u32-requires
     mul-front
     front-requires
-    all-runs-requires
     sub-gap-before
     gap-before-requires
     enum-known-x

@@ -14,7 +14,7 @@ last-gap-requires : tie.Need-last-gap-requires
 last-gap-requires c κs =
     let s = c .before .before .before .before .before .before .before .before .before in
     let a = s .args in
-    last-ready (a .numbers .now) (a .ends .now) (a .positions .now) (a .keys .now) (a .answers .now) (a .certificate .now) (a .threshold) (a .w) (s .pre .0) (s .pre .1)
+    last-ready (a .numbers .now) (a .ends .now) (a .positions .now) (a .keys .now) (a .answers .now) (a .certificate .now) (a .chosen) (a .threshold) (a .w) (s .pre .0) (s .pre .1) (s .pre .2)
 
 same-length : tie.Need-same-length
 same-length c = search needs
@@ -27,7 +27,7 @@ returns c =
     let s = c .before .before .before .before .before .before .before .before .before .before .before .before in
     let a = s .args in
     let g = c .before .before in
-    ends-there (a .numbers .now) (a .ends .now) (a .positions .now) (a .keys .now) (a .answers .now) (a .certificate .now) (a .threshold) (a .w) (s .pre .0) (s .pre .1)
+    ends-there (a .numbers .now) (a .ends .now) (a .positions .now) (a .keys .now) (a .answers .now) (a .certificate .now) (a .chosen) (a .threshold) (a .w) (s .pre .0) (s .pre .1) (s .pre .2)
     (g .last-gap .last .1 .1 .0) (g .last-gap .result) (c .before .before .before .before .before .if1 .taken) (g .last-gap .ensures)
 
 nth-head-requires : tie.Need-nth-head-requires
@@ -37,7 +37,7 @@ cast-advance : tie.Need-cast-advance
 cast-advance c =
     let s = c .before .before .before .before .before .before .before .before .before .before .before .before .before in
     let a = s .args in
-    let b = head-fits (a .numbers .now) (a .ends .now) (a .positions .now) (a .keys .now) (a .answers .now) (a .certificate .now) (a .threshold) (a .w) (s .pre .0) (s .pre .1) (c .before .before .before .before .before .before .if1 .left) in
+    let b = head-fits (a .numbers .now) (a .ends .now) (a .positions .now) (a .keys .now) (a .answers .now) (a .certificate .now) (a .chosen) (a .threshold) (a .w) (s .pre .0) (s .pre .1) (s .pre .2) (c .before .before .before .before .before .before .if1 .left) in
     let e = c .before .before .before .before .nth-head .ensures in
     omega arith
 
@@ -47,8 +47,9 @@ advance-requires c κs =
     let a = s .args in (
       s .pre .0,
       s .pre .1,
-      subst (λ v. Advances (a .numbers .now) (a .ends .now) (a .positions .now) (a .threshold) v) (sym (c .before .before .before .before .nth-head .ensures))
-          (advances (a .numbers .now) (a .ends .now) (a .positions .now) (a .keys .now) (a .answers .now) (a .certificate .now) (a .threshold) (a .w) (s .pre .0) (s .pre .1) (c .before .before .before .before .before .before .if1 .left)),
+      s .pre .2,
+      subst (λ v. Advances (a .chosen) (a .numbers .now) (a .ends .now) (a .positions .now) (a .threshold) v) (sym (c .before .before .before .before .nth-head .ensures))
+          (advances (a .numbers .now) (a .ends .now) (a .positions .now) (a .keys .now) (a .answers .now) (a .certificate .now) (a .chosen) (a .threshold) (a .w) (s .pre .0) (s .pre .1) (s .pre .2) (c .before .before .before .before .before .before .if1 .left)),
     )
 
 same-length-3 : tie.Need-same-length-3
