@@ -8,13 +8,12 @@ use mathlib.Core.Path.{_≡_, refl, sym, ap, _∙_, subst}
 use native.Mathlib.Numerals.{add-one}
 use native.Mathlib.Omega.{arith}
 use Rattle.first_checks.proofs.Laws.{Ordered, next-end, next-ordered}
-use Rattle.model.proofs.FirstChecks.{first-passed, fit}
+use Rattle.model.proofs.FirstChecks.{Listed, runs-rising}
 use Rattle.model.specs.Rows.{from}
 use Rattle.model.proofs.From.{head-bin}
 use Rattle.model.proofs.Tests.{eq-or-ne}
 use Rattle.model.specs.Demands.{Fits}
-use Rattle.model.specs.Refusals.{passed, firstChecks}
-use Rattle.model.specs.Runs.{pastBin, runs, runsFrom, slice}
+use Rattle.model.specs.Runs.{pastBin, runs, runsFrom, slice, mostRuns}
 use Rattle.model.specs.Walk.{headOf}
 use Rattle.check_cursor.specs.Cursors.{startOf, binsOf, cursorPlaces, placeOf, binOf, Cursors, Begins}
 
@@ -98,18 +97,17 @@ member i a numbers [] j h = absurd (omega arith)
 member i a numbers (e ∷ ends) zero h = (i, List·Memᴰ·head refl)
 member i a numbers (e ∷ ends) (suc j) h = let m = member (suc i) e numbers ends j (omega arith) in (m .0, List·Memᴰ·tail (m .1))
 
-pub begins : (numbers ends : List ℕ) (t : ℕ) (cursors : List ℕ) → Fits pastBin numbers → firstChecks numbers ends t ≡ passed → length cursors ≡ length ends
+pub begins : (numbers ends cursors : List ℕ) → Fits pastBin numbers → length ends ≤ mostRuns → Listed numbers ends → length cursors ≡ length ends
     → Begins numbers ends cursors
 unfolding runs
-begins numbers ends t cursors f e l =
-    let p = first-passed numbers ends t e in
+begins numbers ends cursors f k p l =
     let o : Ordered numbers ends 0 0 = record { rise = p .ends-rise; last = p .ends-last } in
-    let r = fit numbers ends t f e in
+    let r = runs-rising numbers ends f p in
     record {
-      few = p .few-runs;
+      few = k;
       short = p .few-numbers;
       starts = λ i h. next-end numbers ends (startOf ends i) i h (ordered numbers ends o i h) .0;
       inside = λ i h. next-end numbers ends (startOf ends i) i h (ordered numbers ends o i h) .1;
-      risen = λ i h. let m = member 0 0 numbers ends i h in r .rising .each _ (m .1);
+      risen = λ i h. let m = member 0 0 numbers ends i h in r .each _ (m .1);
       lengths = l;
     }

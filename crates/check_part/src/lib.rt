@@ -1,7 +1,8 @@
-// One part of a certificate checked at the next uncovered bin (docs/SPECIFICATION.md, 'The refusals').
+// One part of a certificate checked at the next uncovered bin, by the runs that a mask chooses (docs/SPECIFICATION.md, 'The refusals').
 ghost use mathlib.Core.Path.{_≡_};
 ghost use mathlib.Core.Bool.{not, _||_};
-ghost use Prim.Native.Nat.{_/_, _^_, _≤_};
+ghost use Prim.Native.Nat.{_^_, _<_};
+ghost use lib.Bits.{bitAnd};
 ghost use lib.Count.{ones};
 ghost use lib.Dec.{eqb, ltb};
 ghost use lib.ListN.{length};
@@ -9,16 +10,14 @@ ghost use Rattle.model.specs.Certificate.{lastOf};
 ghost use Rattle.field_read.specs.Reading.{partOf};
 ghost use Rattle.check_cursor.specs.Cursors.{Cursors};
 ghost use Rattle.check_scan.specs.Scan.{claim};
-ghost use Rattle.check_part.specs.Tested.{Tested, PartChecked};
-ghost use Rattle.model.specs.Runs.{mostRuns};
+ghost use Rattle.check_part.specs.Tested.{Choice, Tested, PartChecked};
 use field_read::Part;
 
-// Whether the mask names a run from `k` on, or fewer than `few`.
-fn misnames(mask: u64, k: usize, few: usize) -> bool
-    requires { ⌜ k ≤ mostRuns ⌝ }
-    ensures { λ r. ⌜ r ≡ (not (eqb (mask / 2 ^ k) 0) || ltb (ones mask) few) ⌝ }
+// Whether the mask names a run that is not chosen, or fewer than `few`.
+fn misnames(mask: u64, chosen: u64, few: usize) -> bool
+    ensures { λ r. ⌜ r ≡ (not (eqb (bitAnd mask chosen) mask) || ltb (ones mask) few) ⌝ }
 {
-    if mask::names_only_below(mask, k as u32) {
+    if mask::names_only(mask, chosen) {
         return arith::usize_of_u32(mask::ones_of(mask)) < few;
     }
     true
@@ -28,6 +27,7 @@ fn misnames(mask: u64, k: usize, few: usize) -> bool
 fn tested(
     numbers: &[u32],
     ends: &[u32],
+    chosen: u64,
     cursors: &mut [u64],
     bin: u64,
     first: u32,
@@ -36,8 +36,8 @@ fn tested(
     held: bool,
     few: usize,
 ) -> u8
-    requires { ⌜ Cursors (now numbers) (now ends) (now cursors) bin × (lastOf (claim held first last mask) ≡ last) ⌝ }
-    ensures { λ r. ⌜ Tested (now (numbers .entry)) (now (ends .entry)) bin held first last mask few (now (cursors .exit)) r ⌝ }
+    requires { ⌜ Cursors (now numbers) (now ends) (now cursors) bin × (lastOf (claim held first last mask) ≡ last) × (chosen < 2 ^ length (now ends)) ⌝ }
+    ensures { λ r. ⌜ Tested (now (numbers .entry)) (now (ends .entry)) chosen bin held first last mask few (now (cursors .exit)) r ⌝ }
 {
     if first as u64 != bin {
         return 9;
@@ -45,7 +45,7 @@ fn tested(
     if last < first {
         return 9;
     }
-    if misnames(mask, ends.len(), few) {
+    if misnames(mask, chosen, few) {
         return 10;
     }
     if check_scan::contradicted(numbers, ends, cursors, first, last, mask, held) {
@@ -54,22 +54,25 @@ fn tested(
     0
 }
 
-// The number of the refusal of a part at the next uncovered bin, or 0.
+// The number of the refusal of a part at the next uncovered bin, or 0. An answer must name `threshold` of the chosen runs, a gap `few`.
 pub fn check_part(
     numbers: &[u32],
     ends: &[u32],
+    chosen: u64,
     threshold: usize,
+    few: usize,
     cursors: &mut [u64],
     bin: u64,
     part: Part,
 ) -> u8
-    requires { ⌜ Cursors (now numbers) (now ends) (now cursors) bin × (threshold ≤ length (now ends)) ⌝ }
-    ensures { λ r. ⌜ PartChecked (now (numbers .entry)) (now (ends .entry)) threshold bin (partOf part) (now (cursors .exit)) r ⌝ }
+    requires { ⌜ Cursors (now numbers) (now ends) (now cursors) bin × Choice (now ends) chosen threshold few ⌝ }
+    ensures { λ r. ⌜ PartChecked (now (numbers .entry)) (now (ends .entry)) chosen threshold bin (partOf part) (now (cursors .exit)) r ⌝ }
 {
     match part {
         Part::Answer { value, mask } => tested(
             numbers,
             ends,
+            chosen,
             cursors,
             bin,
             value,
@@ -81,13 +84,14 @@ pub fn check_part(
         Part::Gap { first, last, mask } => tested(
             numbers,
             ends,
+            chosen,
             cursors,
             bin,
             first,
             last,
             mask,
             false,
-            ends.len() - threshold + 1,
+            few,
         ),
     }
 }

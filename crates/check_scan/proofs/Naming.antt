@@ -64,7 +64,7 @@ unfolding clash claim contradicts
 named-clash true f l m r i h k n = rw n (ap not (holds-head f (r .bins) i h))
 named-clash false f l m r i h k n = rw n (within-head f l (r .bins) i h k)
 
-unnamed : (held : Bool) (f l m : ℕ) (r : Run) → names m r ≡ false → false ≡ contradicts (claim held f l m) r
+pub unnamed : (held : Bool) (f l m : ℕ) (r : Run) → names m r ≡ false → false ≡ contradicts (claim held f l m) r
 unfolding claim contradicts
 unnamed true f l m r n = rw n
 unnamed false f l m r n = rw n

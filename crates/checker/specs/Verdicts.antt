@@ -4,7 +4,7 @@ use mathlib.Core.List.{List}
 use mathlib.Core.Path.{_≡_}
 use Rattle.model.specs.Demands.{Accepts}
 use Rattle.model.specs.Refusals as model
-use Rattle.model.specs.Runs.{runs}
+use Rattle.model.specs.Runs.{Run, runs, chosen}
 use Rattle.checker.specs.declared.Verdict.{Verdict}
 use Rattle.checker.specs.declared.Verdict.the-variants.{Valid, Invalid}
 
@@ -12,6 +12,13 @@ abbrev pub verdictIs : Verdict → model.Verdict
 verdictIs (Valid answers parts) = model.valid answers parts
 verdictIs (Invalid number place) = model.invalid number place 0 0
 
--- demand 2 for the checker, for lists and a threshold that pass the first checks
-pub record Accepted (numbers ends : List ℕ) (t : ℕ) (certificate : List ℕ) (v : model.Verdict) : Type 0 where
-  pub for-every : model.firstChecks numbers ends t ≡ model.passed → Accepts (runs numbers ends) t certificate v
+-- demand 2 for the checker, for inputs that pass these first checks
+pub record AcceptedBy (c : model.Check) (rs : List Run) (t : ℕ) (certificate : List ℕ) (v : model.Verdict) : Type 0 where
+  pub for-every : c ≡ model.passed → Accepts rs t certificate v
+
+-- over all runs, and over those that a mask chooses
+abbrev pub Accepted : List ℕ → List ℕ → ℕ → List ℕ → model.Verdict → Type 0
+Accepted numbers ends t certificate v = AcceptedBy (model.firstChecks numbers ends t) (runs numbers ends) t certificate v
+
+abbrev pub AcceptedChosen : List ℕ → List ℕ → ℕ → ℕ → List ℕ → model.Verdict → Type 0
+AcceptedChosen numbers ends m t certificate v = AcceptedBy (model.chosenChecks numbers ends m t) (chosen m (runs numbers ends)) t certificate v

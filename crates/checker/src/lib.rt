@@ -1,14 +1,16 @@
-// The checker: whether a certificate's parts cover all bins in order and are true of the runs (docs/SPECIFICATION.md, 'The refusals').
+// The checker: whether a certificate's parts cover all bins in order and are true of the runs, of all or of those that a mask chooses
+// (docs/SPECIFICATION.md, 'The refusals').
 ghost use mathlib.Core.Path.{_≡_};
-ghost use Prim.Native.Nat.{suc, _≤_};
+ghost use Prim.Native.Nat.{suc};
 ghost use lib.ListN.{length};
 ghost use Rattle.model.specs.Certificate.{lastOf};
-ghost use Rattle.model.specs.Refusals.{checkFrom, check};
-ghost use Rattle.model.specs.Runs.{runs};
+ghost use Rattle.model.specs.Refusals.{passed, invalid, chosenChecks, checkFrom, check, checkChosen};
+ghost use Rattle.model.specs.Runs.{runs, chosen};
 ghost use Rattle.field_read.specs.Reading.{partOf};
 ghost use Rattle.check_cursor.specs.Cursors.{Cursors, Begins};
+ghost use Rattle.check_part.specs.Tested.{Choice};
 ghost use Rattle.checker.specs.Counts.{answerCount};
-ghost use Rattle.checker.specs.Verdicts.{verdictIs, Accepted};
+ghost use Rattle.checker.specs.Verdicts.{verdictIs, Accepted, AcceptedChosen};
 use field_read::Field;
 use field_read::Part;
 use first_checks::Checked;
@@ -39,16 +41,18 @@ fn answers_in(part: Part) -> usize
     }
 }
 
-// Checks the parts one after another; each field is settled before the next is read.
+// Checks the parts one after another by the runs that the mask chooses; each field is settled before the next is read.
 fn check_parts(
     numbers: &[u32],
     ends: &[u32],
+    mask: u64,
     threshold: usize,
+    few: usize,
     cursors: &mut [u64],
     certificate: &[u8],
 ) -> Verdict
-    requires { ⌜ Cursors (now numbers) (now ends) (now cursors) 0 × (threshold ≤ length (now ends)) ⌝ }
-    ensures { λ r. ⌜ verdictIs r ≡ checkFrom (length (now (certificate .entry))) (runs (now (numbers .entry)) (now (ends .entry))) threshold 0 0 (now (certificate .entry)) ⌝ }
+    requires { ⌜ Cursors (now numbers) (now ends) (now cursors) 0 × Choice (now ends) mask threshold few ⌝ }
+    ensures { λ r. ⌜ verdictIs r ≡ checkFrom (length (now (certificate .entry))) (chosen mask (runs (now (numbers .entry)) (now (ends .entry)))) threshold 0 0 (now (certificate .entry)) ⌝ }
 {
     let mut bin: u64 = 0;
     let mut at: usize = 0;
@@ -61,7 +65,16 @@ fn check_parts(
                 place: at,
             };
         };
-        let number = check_part::check_part(numbers, ends, threshold, cursors, bin, part);
+        let number = check_part::check_part(
+            numbers,
+            ends,
+            mask,
+            threshold,
+            few,
+            cursors,
+            bin,
+            part,
+        );
         if number != 0 {
             return Verdict::Invalid {
                 number: number,
@@ -85,19 +98,50 @@ fn check_parts(
     }
 }
 
-// The check of lists and a threshold that pass the first checks.
+// The same from cursors that are not yet placed.
 fn check_all(
     numbers: &[u32],
     ends: &[u32],
+    mask: u64,
     threshold: usize,
+    few: usize,
     cursors: &mut [u64],
     certificate: &[u8],
 ) -> Verdict
-    requires { ⌜ Begins (now numbers) (now ends) (now cursors) × (threshold ≤ length (now ends)) ⌝ }
-    ensures { λ r. ⌜ verdictIs r ≡ checkFrom (length (now (certificate .entry))) (runs (now (numbers .entry)) (now (ends .entry))) threshold 0 0 (now (certificate .entry)) ⌝ }
+    requires { ⌜ Begins (now numbers) (now ends) (now cursors) × Choice (now ends) mask threshold few ⌝ }
+    ensures { λ r. ⌜ verdictIs r ≡ checkFrom (length (now (certificate .entry))) (chosen mask (runs (now (numbers .entry)) (now (ends .entry)))) threshold 0 0 (now (certificate .entry)) ⌝ }
 {
     check_cursor::begin(numbers, ends, cursors);
-    check_parts(numbers, ends, threshold, cursors, certificate)
+    check_parts(numbers, ends, mask, threshold, few, cursors, certificate)
+}
+
+// The check of lists, a mask and a threshold that pass the first checks.
+fn check_passed(
+    numbers: &[u32],
+    ends: &[u32],
+    mask: u64,
+    threshold: u32,
+    certificate: &[u8],
+) -> Verdict
+    requires { ⌜ chosenChecks (now numbers) (now ends) mask threshold ≡ passed ⌝ }
+    ensures { λ r. ⌜ verdictIs r ≡ checkFrom (length (now (certificate .entry))) (chosen mask (runs (now (numbers .entry)) (now (ends .entry)))) threshold 0 0 (now (certificate .entry)) ⌝ }
+{
+    let mut cursors = [0u64; limits::MOST_RUNS];
+    let k = ends.len();
+    let t = arith::usize_of_u32(threshold);
+    let count = arith::usize_of_u32(mask::ones_of(mask));
+    let few = count - t + 1;
+    check_all(numbers, ends, mask, t, few, &mut cursors[0..k], certificate)
+}
+
+// A refusal by the first checks.
+fn refused(number: u8, place: usize) -> Verdict
+    ensures { λ r. ⌜ verdictIs r ≡ invalid number place 0 0 ⌝ }
+{
+    Verdict::Invalid {
+        number: number,
+        place: place,
+    }
 }
 
 // Whether a certificate, whoever wrote it, is true of the lists and the threshold: it covers all bins in order, and each part is true of the runs that
@@ -107,23 +151,31 @@ pub fn check(numbers: &[u32], ends: &[u32], threshold: u32, certificate: &[u8]) 
     ensures verdict { λ r. ⌜ verdictIs r ≡ check (now (numbers .entry)) (now (ends .entry)) threshold (now (certificate .entry)) ⌝ }
     ensures accepted { λ r. ⌜ Accepted (now (numbers .entry)) (now (ends .entry)) threshold (now (certificate .entry)) (verdictIs r) ⌝ }
 {
-    if let Checked::Refused { number, place } = first_checks::first_checks(
-        numbers,
-        ends,
-        threshold,
-    ) {
-        return Verdict::Invalid {
-            number: number,
-            place: place,
-        };
+    match first_checks::first_checks(numbers, ends, threshold) {
+        Checked::Refused { number, place } => refused(number, place),
+        Checked::Passed => check_passed(
+            numbers,
+            ends,
+            mask::all_runs(ends.len()),
+            threshold,
+            certificate,
+        ),
     }
-    let mut cursors = [0u64; limits::MOST_RUNS];
-    let k = ends.len();
-    check_all(
-        numbers,
-        ends,
-        arith::usize_of_u32(threshold),
-        &mut cursors[0..k],
-        certificate,
-    )
+}
+
+// The same by the runs alone that the mask chooses: run i is chosen by bit i, and no part may name another.
+pub fn check_chosen(
+    numbers: &[u32],
+    ends: &[u32],
+    mask: u64,
+    threshold: u32,
+    certificate: &[u8],
+) -> Verdict
+    ensures verdict { λ r. ⌜ verdictIs r ≡ checkChosen (now (numbers .entry)) (now (ends .entry)) mask threshold (now (certificate .entry)) ⌝ }
+    ensures accepted { λ r. ⌜ AcceptedChosen (now (numbers .entry)) (now (ends .entry)) mask threshold (now (certificate .entry)) (verdictIs r) ⌝ }
+{
+    match first_checks::chosen_checks(numbers, ends, mask, threshold) {
+        Checked::Refused { number, place } => refused(number, place),
+        Checked::Passed => check_passed(numbers, ends, mask, threshold, certificate),
+    }
 }

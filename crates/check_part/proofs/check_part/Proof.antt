@@ -1,5 +1,4 @@
 -- `check_part` tests an answer or a gap. Assumes nothing.
-use mathlib.Core.Path.{ap}
 use Rattle.check_part.proofs.Testing.{answer-last, gap-last, answer-checked, gap-checked}
 use borrow.Author.Needs.{needs}
 use Rattle.check_part.proofs.check_part.Statement.{statement}
@@ -11,41 +10,39 @@ enum-known-part c = search needs
 tested-requires : tie.Need-tested-requires
 tested-requires c κs =
     let g = c .before .before .part .given in
-    (c .before .before .before .before .before .before .before .pre .0, answer-last (g .0 .0) (g .0 .1 .0))
+    let s = c .before .before .before .before .before .before .before in
+    (s .pre .0, answer-last (g .0 .0) (g .0 .1 .0), s .pre .1 .within)
 
 enum-known-part-2 : tie.Need-enum-known-part-2
 enum-known-part-2 c = search needs
 
-sub-tested : tie.Need-sub-tested
-sub-tested c = search needs
-
-add-tested : tie.Need-add-tested
-add-tested c = search needs
-
 tested-requires-2 : tie.Need-tested-requires-2
 tested-requires-2 c κs =
     let g = c .before .before .part2 .given in
-    (c .before .before .before .before .before .before .before .pre .0, gap-last (g .0 .0) (g .0 .1 .0) (g .0 .1 .1 .0))
+    let s = c .before .before .before .before .before .before .before in
+    (s .pre .0, gap-last (g .0 .0) (g .0 .1 .0) (g .0 .1 .1 .0), s .pre .1 .within)
 
 same-length : tie.Need-same-length
 same-length c = search needs
 
 returns : tie.Need-returns
 returns c =
-    let a = c .before .before .before .before .before .before .before .before .before .before .args in
-    let g = c .before .before .before .before .before .part .given in
-    let u = c .before .before .tested in
-    answer-checked (a .numbers .now) (a .ends .now) (a .bin) (g .0 .0) (g .0 .1 .0) (a .threshold) _ (u .result) (a .part) (g .1) (u .ensures)
+    let t = c .before .before in
+    let a = t .before .before .before .before .before .before .before .before .args in
+    let g = t .before .before .before .part .given in
+    answer-checked (a .numbers .now) (a .ends .now) (a .chosen) (a .bin) (g .0 .0) (g .0 .1 .0) (a .threshold) _ (t .tested .result) (a .part) (g .1) (t .tested .ensures)
 
 same-length-2 : tie.Need-same-length-2
 same-length-2 c = search needs
 
 returns-2 : tie.Need-returns-2
 returns-2 c =
-    let a = c .before .before .before .before .before .before .before .before .before .before .args in
-    let g = c .before .before .before .before .before .part2 .given in
-    let u = c .before .before .tested2 in
-    gap-checked (a .numbers .now) (a .ends .now) (a .bin) (g .0 .0) (g .0 .1 .0) (g .0 .1 .1 .0) (a .threshold) _ (u .result) (a .part) (g .1) (u .ensures)
+    let t = c .before .before in
+    let s = t .before .before .before .before .before .before .before .before in
+    let a = s .args in
+    let g = t .before .before .before .part2 .given in
+    gap-checked (a .numbers .now) (a .ends .now) (a .chosen) (a .bin) (g .0 .0) (g .0 .1 .0) (g .0 .1 .1 .0) (a .threshold) (a .few) _ (t .tested2 .result) (a .part) (g .1)
+    (s .pre .1) (t .tested2 .ensures)
 
 pub check-part-spec : {M : Type 1} → statement M
 check-part-spec =
@@ -54,8 +51,6 @@ check-part-spec =
     enum-known-part
     tested-requires
     enum-known-part-2
-    sub-tested
-    add-tested
     tested-requires-2
     same-length
     returns

@@ -5,11 +5,8 @@ use borrow.Author.Needs.{needs}
 use Rattle.check_part.proofs.misnames.Statement.{statement}
 use Rattle.check_part.proofs.misnames.Tie as tie
 
-cast-names-only-below : tie.Need-cast-names-only-below
-cast-names-only-below c = search needs
-
-names-only-below-requires : tie.Need-names-only-below-requires
-names-only-below-requires c κs = search needs
+names-only-requires : tie.Need-names-only-requires
+names-only-requires c κs = search needs
 
 ones-of-requires : tie.Need-ones-of-requires
 ones-of-requires c κs = search needs
@@ -19,21 +16,12 @@ usize-of-u32-requires c κs = search needs
 
 returns : tie.Need-returns
 returns c =
-    let n = c .before .before .before .names-only-below in
-    misnames-few _ (c .usize-of-u32 .result) _ (c .before .before .before .before .args .few) (sym (n .ensures) ∙ c .before .before .if1 .taken) (c .usize-of-u32 .ensures ∙ c .before .ones-of .ensures)
+    let n = c .before .before .before in
+    misnames-few _ (c .usize-of-u32 .result) _ (n .before .args .few) (sym (n .names-only .ensures) ∙ c .before .before .if1 .taken) (c .usize-of-u32 .ensures ∙ c .before .ones-of .ensures)
 
 returns-2 : tie.Need-returns-2
-returns-2 c =
-    let n = c .before .names-only-below in
-    misnames-other _ _ (sym (n .ensures) ∙ c .if1 .left)
+returns-2 c = misnames-other _ _ (sym (c .before .names-only .ensures) ∙ c .if1 .left)
 
 pub misnames-spec : {M : Type 1} → statement M
 misnames-spec =
-    tie.close
-    (tie.spec
-    cast-names-only-below
-    names-only-below-requires
-    ones-of-requires
-    usize-of-u32-requires
-    returns
-    returns-2)
+    tie.close (tie.spec names-only-requires ones-of-requires usize-of-u32-requires returns returns-2)

@@ -1,16 +1,13 @@
--- `check` returns the model's verdict for any input, and demand 2 holds of it. Assumes nothing.
+-- `check` returns the model's verdict for any input, and demand 2 holds of it: all runs are those that the mask of all chooses. Assumes nothing.
+use Prim.Native.Nat.{_-_, _^_}
 use lib.ListN.{length}
 use mathlib.Core.Path.{_≡_, sym, ap, _∙_}
-use native.Mathlib.Omega.{arith}
 use Rattle.first_checks.specs.Checked.{checkOf}
-use Rattle.model.proofs.FirstChecks.{fits}
+use Rattle.model.proofs.FirstChecks.{fits, all-chosen-checks}
 use Rattle.model.specs.Demands.{Fits}
-use Rattle.model.specs.Refusals.{passed, invalid, firstChecks, checkFrom}
-use Rattle.model.specs.Runs.{pastBin, runs}
-use Rattle.checker.specs.Verdicts.{verdictIs}
-use Rattle.checker.proofs.Accepting.{few-runs, met, accepted, check-refused, check-passed}
-use Rattle.check_cursor.proofs.Moving.{bin-fits}
-use Rattle.check_cursor.proofs.Placing.{begins}
+use Rattle.model.specs.Refusals.{passed, firstChecks, chosenChecks, checkFrom}
+use Rattle.model.specs.Runs.{runs, chosen}
+use Rattle.checker.proofs.Accepting.{few-runs, all-refused, all-judged}
 use borrow.Author.Needs.{needs}
 use Rattle.checker.proofs.check.Statement.{statement}
 use Rattle.checker.proofs.check.Tie as tie
@@ -18,22 +15,11 @@ use Rattle.checker.proofs.check.Tie as tie
 first-checks-requires : tie.Need-first-checks-requires
 first-checks-requires c κs = search needs
 
-fits-bins : (c : tie.After-shared-slice-known) → Fits pastBin (c .before .args .numbers .now)
-fits-bins c = fits pastBin (c .before .args .numbers .now) (λ i. bin-fits _ (c .shared-slice-known .given i .fits))
-
-fits-bytes : (c : tie.After-shared-slice-known3) → Fits 256 (c .before .before .before .args .certificate .now)
-fits-bytes c = fits 256 (c .before .before .before .args .certificate .now) (λ i. c .shared-slice-known3 .given i .fits)
-
 enum-known-number : tie.Need-enum-known-number
 enum-known-number c = search needs
 
-returns : tie.Need-returns
-returns c =
-    let a = c .before .before .before .before .before .before .before .args in
-    let g = c .before .number .given in
-    accepted (a .numbers .now) (a .ends .now) (a .threshold) (a .certificate .now) (invalid (g .0 .0) (g .0 .1 .0) 0 0) (fits-bytes (c .before .before .before .before))
-    (check-refused (a .numbers .now) (a .ends .now) (a .threshold) (a .certificate .now) (g .0 .0) (g .0 .1 .0)
-    (sym (c .before .before .before .first-checks .ensures) ∙ ap checkOf (g .1)))
+refused-requires : tie.Need-refused-requires
+refused-requires c κs = search needs
 
 enum-told : tie.Need-enum-told
 enum-told c = search needs
@@ -41,36 +27,37 @@ enum-told c = search needs
 has-passed : (c : tie.After-enum-told) → (let a = c .before .before .before .before .before .before .args in firstChecks (a .numbers .now) (a .ends .now) (a .threshold) ≡ passed)
 has-passed c = sym (c .before .before .first-checks .ensures) ∙ ap checkOf (c .enum-told .given .1)
 
-usize-of-u32-requires : tie.Need-usize-of-u32-requires
-usize-of-u32-requires c κs = search needs
+fits-bytes : (c : tie.After-shared-slice-known3) → Fits 256 (c .before .before .before .args .certificate .now)
+fits-bytes c = fits 256 (c .before .before .before .args .certificate .now) (λ i. c .shared-slice-known3 .given i .fits)
 
-sub-check-all : tie.Need-sub-check-all
-sub-check-all c = search needs
+all-runs-requires : tie.Need-all-runs-requires
+all-runs-requires c κs =
+    let a = c .before .before .before .before .before .before .args in
+    few-runs (a .numbers .now) (a .ends .now) (a .threshold) (has-passed c)
 
-part-cursors-start : tie.Need-part-cursors-start
-part-cursors-start c = search needs
-
-part-cursors-end : tie.Need-part-cursors-end
-part-cursors-end c =
+check-passed-requires : tie.Need-check-passed-requires
+check-passed-requires c κs =
     let a = c .before .before .before .before .before .before .before .args in
-    few-runs (a .numbers .now) (a .ends .now) (a .threshold) (has-passed (c .before))
+    ap (λ m. chosenChecks (a .numbers .now) (a .ends .now) m (a .threshold)) (c .all-runs .ensures)
+    ∙ all-chosen-checks (a .numbers .now) (a .ends .now) (a .threshold) (has-passed (c .before))
 
-check-all-requires : tie.Need-check-all-requires
-check-all-requires c κs =
-    let a = c .before .before .before .before .before .before .before .before .args in
-    let p = has-passed (c .before .before) in
-    let e = c .before .usize-of-u32 .ensures in
-    let m = met (a .numbers .now) (a .ends .now) (a .threshold) p in
-    let f = few-runs (a .numbers .now) (a .ends .now) (a .threshold) p in
-    (begins (a .numbers .now) (a .ends .now) (a .threshold) _ (fits-bins (c .before .before .before .before .before .before .before)) p (search needs), omega (arith, e, m))
+returns : tie.Need-returns
+returns c =
+    let n = c .before .before in
+    let u = n .before .before in
+    let a = u .before .before .before .before .args in
+    all-refused (a .numbers .now) (a .ends .now) (a .threshold) (a .certificate .now) (fits-bytes (u .before)) _
+    (sym (u .first-checks .ensures) ∙ ap checkOf (n .number .given .1)) (c .refused .ensures)
 
 returns-2 : tie.Need-returns-2
 returns-2 c =
-    let a = c .before .before .before .before .before .before .before .before .before .before .args in
-    let u = c .before .check-all in
-    accepted (a .numbers .now) (a .ends .now) (a .threshold) (a .certificate .now) (verdictIs (u .result)) (fits-bytes (c .before .before .before .before .before .before .before))
-    (check-passed (a .numbers .now) (a .ends .now) (a .threshold) (a .certificate .now) (verdictIs (u .result)) (has-passed (c .before .before .before .before))
-    (u .ensures ∙ ap (λ x. checkFrom (length (a .certificate .now)) (runs (a .numbers .now) (a .ends .now)) x 0 0 (a .certificate .now)) (c .before .before .before .usize-of-u32 .ensures)))
+    let r = c .before in
+    let p = r .before in
+    let u = p .before .before in
+    let a = u .before .before .before .before .args in
+    all-judged (a .numbers .now) (a .ends .now) (a .threshold) (a .certificate .now) (fits-bytes (u .before)) _ (has-passed p)
+    (c .check-passed .ensures
+    ∙ ap (λ m. checkFrom (length (a .certificate .now)) (chosen m (runs (a .numbers .now) (a .ends .now))) (a .threshold) 0 0 (a .certificate .now)) (r .all-runs .ensures))
 
 pub check-spec : {M : Type 1} → statement M
 check-spec =
@@ -78,11 +65,9 @@ check-spec =
     (tie.spec
     first-checks-requires
     enum-known-number
-    returns
+    refused-requires
     enum-told
-    usize-of-u32-requires
-    sub-check-all
-    part-cursors-start
-    part-cursors-end
-    check-all-requires
+    all-runs-requires
+    check-passed-requires
+    returns
     returns-2)

@@ -1,8 +1,9 @@
 -- `check_parts` settles one field after another. The invariant is `Along`; the measure is what is left of the certificate. Assumes nothing.
-use Prim.Native.Nat.{_-_, _≤_}
+use Prim.Native.Nat.{_-_}
 use lib.ListN.{length}
 use mathlib.Core.Path.{_≡_, sym, _∙_}
 use native.Mathlib.Omega.{arith}
+use Rattle.check_part.specs.Tested.{Choice}
 use Rattle.field_read.specs.Reading.{partOf}
 use Rattle.model.proofs.Checking.{size-pos}
 use Rattle.checker.proofs.Following.{Along, along-start, along-unreadable, along-refused, along-on, next-is, answers-few, along-valid, along-uncovered}
@@ -11,18 +12,18 @@ use Rattle.checker.proofs.check_parts.Statement.{statement}
 use Rattle.checker.proofs.check_parts.Tie as tie
 
 abbrev Inv-loop : tie.InvT-loop
-Inv-loop numbers ends threshold cursors₀ certificate bin₀ at₀ answers₀ parts₀ cursors bin at answers parts =
-    Along numbers ends threshold certificate cursors bin at answers parts × (length cursors₀ ≡ length ends) × (threshold ≤ length ends)
+Inv-loop numbers ends mask threshold few cursors₀ certificate bin₀ at₀ answers₀ parts₀ cursors bin at answers parts =
+    Along numbers ends mask threshold certificate cursors bin at answers parts × (length cursors₀ ≡ length ends) × Choice ends mask threshold few
 
 abbrev μ-loop : tie.MeasureT-loop
-μ-loop numbers ends threshold cursors₀ certificate bin₀ at₀ answers₀ parts₀ cursors bin at answers parts =
+μ-loop numbers ends mask threshold few cursors₀ certificate bin₀ at₀ answers₀ parts₀ cursors bin at answers parts =
     length certificate - at
 
 loop-holds : tie.Need-loop-holds Inv-loop μ-loop
 loop-holds c =
     let s = c .before .before .before .before in
     let a = s .args in
-    (along-start (a .numbers .now) (a .ends .now) (a .threshold) (a .certificate .now) (a .cursors .now) (s .pre .0), s .pre .0 .lengths, s .pre .1)
+    (along-start (a .numbers .now) (a .ends .now) (a .mask) (a .threshold) (a .certificate .now) (a .cursors .now) (s .pre .0), s .pre .0 .lengths, s .pre .1)
 
 read-field-requires : tie.Need-read-field-requires Inv-loop μ-loop
 read-field-requires c κs = search needs
@@ -41,7 +42,7 @@ returns c =
     let a = c .before .before .before .before .before .before .before .before .before .args in
     let l = c .before .before .before .before .loop in
     let u = c .before .before .read-field in
-    along-unreadable (a .numbers .now) (a .ends .now) (a .threshold) (a .certificate .now) (l .cursors) (l .bin) (l .at) (l .answers) (l .parts) (l .inv .0) (omega arith) (u .result) (c .enum-told .given .1) (u .ensures .0)
+    along-unreadable (a .numbers .now) (a .ends .now) (a .mask) (a .threshold) (a .certificate .now) (l .cursors) (l .bin) (l .at) (l .answers) (l .parts) (l .inv .0) (omega arith) (u .result) (c .enum-told .given .1) (u .ensures .0)
 
 check-part-requires : tie.Need-check-part-requires Inv-loop μ-loop
 check-part-requires c κs =
@@ -49,7 +50,7 @@ check-part-requires c κs =
     (l .inv .0 .ready, l .inv .2)
 
 same-length-2 : tie.Need-same-length-2 Inv-loop μ-loop
-same-length-2 c = c .before .before .before .check-part .kept .1 .1 .1 .0 ∙ (c .before .before .before .before .before .before .before .before .before .before .loop .inv .0 .ready .lengths ∙ sym (c .before .before .before .before .before .before .before .before .before .before .loop .inv .1))
+same-length-2 c = c .before .before .before .check-part .kept .1 .1 .1 .1 .1 .0 ∙ (c .before .before .before .before .before .before .before .before .before .before .loop .inv .0 .ready .lengths ∙ sym (c .before .before .before .before .before .before .before .before .before .before .loop .inv .1))
 
 returns-2 : tie.Need-returns-2 Inv-loop μ-loop
 returns-2 c =
@@ -58,7 +59,7 @@ returns-2 c =
     let u = c .before .before .before .before .before .before .before .before .read-field in
     let g = c .before .before .before .before .before .before .part .given in
     let k = c .before .before .before .check-part in
-    along-refused (a .numbers .now) (a .ends .now) (a .threshold) (a .certificate .now) (l .cursors) (l .bin) (l .at) (l .answers) (l .parts) (l .inv .0) (omega arith) (u .result) (g .0 .0) (g .0 .1 .0) (g .1) (u .ensures .0) _ (k .result) (k .ensures) (c .if1 .taken)
+    along-refused (a .numbers .now) (a .ends .now) (a .mask) (a .threshold) (a .certificate .now) (l .cursors) (l .bin) (l .at) (l .answers) (l .parts) (l .inv .0) (omega arith) (u .result) (g .0 .0) (g .0 .1 .0) (g .1) (u .ensures .0) _ (k .result) (k .ensures) (c .if1 .taken)
 
 past-requires : tie.Need-past-requires Inv-loop μ-loop
 past-requires c κs = search needs
@@ -68,14 +69,15 @@ answers-in-requires c κs = search needs
 
 add-answers : tie.Need-add-answers Inv-loop μ-loop
 add-answers c =
-    let a = c .before .before .before .before .before .before .before .before .before .before .before .before .before .before .before .before .before .args in
-    let l = c .before .before .before .before .before .before .before .before .before .before .before .before .loop in
+    let t = c .before .before .before .before .before .before .before .before .before .before .before in
+    let l = t .before .loop in
     let g = c .before .before .before .before .before .before .before .before .part .given in
     let w = answers-few (partOf (g .0 .0)) in
     let e = c .answers-in .ensures in
     let f = l .inv .0 .few in
     let s = l .inv .0 .slow in
-    omega (arith, e)
+    let d = t .before .before .before .before .before .before .good in
+    omega (arith, e, t .loop-test .taken)
 
 add-parts : tie.Need-add-parts Inv-loop μ-loop
 add-parts c =
@@ -88,7 +90,7 @@ loop-less c =
     let l = c .before .before .before .before .before .before .before .before .before .before .before .before .loop in
     let u = c .before .before .before .before .before .before .before .before .before .before .read-field in
     let g = c .before .before .before .before .before .before .before .before .part .given in
-    let e = next-is (a .numbers .now) (a .ends .now) (a .threshold) (a .certificate .now) (l .cursors) (l .bin) (l .at) (l .answers) (l .parts) (l .inv .0) (u .result) (g .0 .0) (g .0 .1 .0) (g .1) (u .ensures .1) in
+    let e = next-is (a .numbers .now) (a .ends .now) (a .mask) (a .threshold) (a .certificate .now) (l .cursors) (l .bin) (l .at) (l .answers) (l .parts) (l .inv .0) (u .result) (g .0 .0) (g .0 .1 .0) (g .1) (u .ensures .1) in
     let s = size-pos (partOf (g .0 .0)) in
     omega (arith, e, s)
 
@@ -100,7 +102,7 @@ loop-again c =
     let g = c .before .before .before .before .before .before .before .before .part .given in
     let k = c .before .before .before .before .before .check-part in
     let b = c .before .past in (
-      along-on (a .numbers .now) (a .ends .now) (a .threshold) (a .certificate .now) (l .cursors) (l .bin) (l .at) (l .answers) (l .parts) (l .inv .0) (omega arith) (u .result) (g .0 .0) (g .0 .1 .0) (g .1) (u .ensures .0) (u .ensures .1) (k .last .1 .1 .1 .0) (k .result) (k .ensures) (c .before .before .if1 .left) (b .result) (c .answers-in .result) (b .ensures) (c .answers-in .ensures),
+      along-on (a .numbers .now) (a .ends .now) (a .mask) (a .threshold) (a .certificate .now) (l .cursors) (l .bin) (l .at) (l .answers) (l .parts) (l .inv .0) (omega arith) (u .result) (g .0 .0) (g .0 .1 .0) (g .1) (u .ensures .0) (u .ensures .1) (k .last .1 .1 .1 .1 .1 .0) (k .result) (k .ensures) (c .before .before .if1 .left) (b .result) (c .answers-in .result) (b .ensures) (c .answers-in .ensures),
       l .inv .1,
       l .inv .2,
     )
@@ -112,7 +114,7 @@ returns-3 : tie.Need-returns-3 Inv-loop μ-loop
 returns-3 c =
     let a = c .before .before .before .before .before .before .before .args in
     let l = c .before .before .loop in
-    along-valid (a .numbers .now) (a .ends .now) (a .threshold) (a .certificate .now) (l .cursors) (l .bin) (l .at) (l .answers) (l .parts) (l .inv .0) (omega arith) (c .if2 .taken)
+    along-valid (a .numbers .now) (a .ends .now) (a .mask) (a .threshold) (a .certificate .now) (l .cursors) (l .bin) (l .at) (l .answers) (l .parts) (l .inv .0) (omega arith) (c .if2 .taken)
 
 same-length-4 : tie.Need-same-length-4 Inv-loop μ-loop
 same-length-4 c = c .before .before .loop .inv .0 .ready .lengths ∙ sym (c .before .before .loop .inv .1)
@@ -121,7 +123,7 @@ returns-4 : tie.Need-returns-4 Inv-loop μ-loop
 returns-4 c =
     let a = c .before .before .before .before .before .before .before .args in
     let l = c .before .before .loop in
-    along-uncovered (a .numbers .now) (a .ends .now) (a .threshold) (a .certificate .now) (l .cursors) (l .bin) (l .at) (l .answers) (l .parts) (l .inv .0) (omega arith) (c .if2 .left)
+    along-uncovered (a .numbers .now) (a .ends .now) (a .mask) (a .threshold) (a .certificate .now) (l .cursors) (l .bin) (l .at) (l .answers) (l .parts) (l .inv .0) (omega arith) (c .if2 .left)
 
 pub check-parts-spec : {M : Type 1} → statement M
 check-parts-spec =
