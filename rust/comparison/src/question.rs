@@ -46,6 +46,13 @@ impl fmt::Debug for Question<'_> {
     }
 }
 
+/// The reference's refusal in the terms of `quorum`.
+pub fn refusal_of(refusal: reference::Refusal) -> Refusal {
+    let reference::Refusal { number, place } = refusal;
+    let number = number.into();
+    Refusal { number, place }
+}
+
 /// The reference's outcome in the terms of `quorum`.
 pub fn result_of(outcome: reference::Outcome) -> Result<Counts, Stopped> {
     let [number, place, answers, parts, bytes, probes] = row_of(outcome);

@@ -1,7 +1,7 @@
 //! The bound 2 × d × b on the probes of a run against the fewest parts of any
 //! true certificate, found without the walk, and `probe_bound`.
 
-use comparison::question::{whole, Comparer, Limits, Question};
+use comparison::question::{refusal_of, whole, Comparer, Limits, Question};
 use comparison::seeds;
 use comparison::shapes::any_runs;
 use quorum::{probe_bound, Refusal};
@@ -87,30 +87,9 @@ fn many_short_runs() {
     random_walks(23, 20, [10, 64], 2);
 }
 
-/// What the bound should be.
-fn expected_bound(ends: &[u32], parts: u32) -> Result<u64, Refusal> {
-    let k = ends.len();
-    let refusal = |number, place: usize| {
-        Err(Refusal {
-            number,
-            place: place as u64,
-        })
-    };
-    if k == 0 || k > 64 {
-        return refusal(1, k);
-    }
-    if let Some(i) = (1..k).find(|&i| ends[i] < ends[i - 1]) {
-        return refusal(3, i);
-    }
-    if ends[k - 1] > 1_048_576 {
-        return refusal(3, k);
-    }
-    Ok(reference::probe_bound(ends, parts.into()))
-}
-
 fn compare_bound(seed: u64, ends: &[u32], parts: u32) -> Result<u64, Refusal> {
     let context = || format!("seed {seed}: {parts} parts, ends {ends:?}");
-    let expected = expected_bound(ends, parts);
+    let expected = reference::probe_bound(ends, parts).map_err(refusal_of);
     assert_eq!(probe_bound(ends, parts), expected, "{}", context());
     let row = match expected {
         Ok(bound) => [0, 0, bound],
