@@ -180,6 +180,54 @@ fn long_runs() {
     compare_random(94, 40, [1, 8], 1_500);
 }
 
+/// Of a call that stops early, the questions before the one that was stopped are
+/// whole.
+#[test]
+fn finished_before_a_stop() {
+    let mut seen = Seen::default();
+    let mut comparer = Comparer::new();
+    for seed in seeds(96, 10_000) {
+        let mut random = Random(seed);
+        let k = random.from_to(1, 7);
+        let runs = any_runs(&mut random, k, 6);
+        let questions = random.from_to(2, 6);
+        let call = Call::any(&mut random, &runs, questions);
+        let exact = whole(&call).unwrap();
+        let limits = match random.below(3) {
+            0 => Limits {
+                allowance: random.below(exact.allowance as usize + 1) as u32,
+                ..exact
+            },
+            1 => Limits {
+                answers: random.below(exact.answers + 1),
+                ..exact
+            },
+            _ => Limits {
+                bytes: random.below(exact.bytes),
+                ..exact
+            },
+        };
+        let row = comparer.compare(seed, &call, limits, call.results());
+        let Err(stopped) = result_of(row) else {
+            continue;
+        };
+        assert_eq!(stopped.finished(), stopped.question, "seed {seed}");
+        for (i, question) in comparer.finished(stopped.question).iter().enumerate() {
+            let single = Question {
+                numbers: &call.numbers,
+                ends: &call.ends,
+                threshold: call.thresholds[i],
+            };
+            let number = seen.compare_chosen(seed, single, call.masks[i], question.certificate);
+            assert_eq!(number, 0, "seed {seed}: {call:?}");
+            let chosen = choose(&runs, call.masks[i]);
+            let whole = ask(&chosen, call.thresholds[i], exact);
+            assert_eq!(question.answers, whole.1, "seed {seed}: {call:?}");
+        }
+    }
+    seen.met(&[0], 5_000);
+}
+
 /// The same certificate, checked for another choice of runs: refused as 10 if it
 /// names a run that is not chosen, and not before that.
 #[test]
