@@ -33,6 +33,10 @@
  * `ends_len - threshold + 1`, and what it says of each named run holds. An
  * answer that quorum_query writes names all the runs that hold it.
  * examples/query.c has a decoder of the fields to copy.
+ *
+ * A question may be about some of the runs, which a mask chooses. Its
+ * certificate names no other run, and the number of chosen runs takes the place
+ * of `ends_len`. Run i is bit i of every mask, whichever runs are chosen.
  */
 #ifndef QUORUM_H
 #define QUORUM_H
@@ -46,7 +50,7 @@ extern "C" {
 
 /** The version. While the major number is 0, a higher minor one may change calls. */
 #define QUORUM_VERSION_MAJOR 0
-#define QUORUM_VERSION_MINOR 1
+#define QUORUM_VERSION_MINOR 2
 #define QUORUM_VERSION_PATCH 0
 
 /** The limits: runs, numbers of all runs together, and the last bin. */
@@ -56,15 +60,20 @@ extern "C" {
 
 /**
  * Room that is always enough for n numbers: with so many answers and certificate
- * bytes refusals 5 and 6 never occur. (Proved: `room-enough`.)
+ * bytes refusals 5 and 6 never occur. (Proved: `room-enough`.) Many questions in
+ * one call need at most this for each of them.
  */
 #define QUORUM_ENOUGH_ANSWERS(n) ((size_t)(n))
 #define QUORUM_ENOUGH_BYTES(n) (34 * (size_t)(n) + 19)
+
+/** The result places that q questions in one call need: two for each. */
+#define QUORUM_ENOUGH_RESULTS(q) (2 * (size_t)(q))
 
 /**
  * An allowance of probes that is always enough: 2 * 1048576 * 21. With it, or any
  * larger one, refusal 7 never occurs. (Proved: `always-enough`.) For n numbers in
  * all, b being the binary digits of n, 2 * n * b is enough too (`numbers-enough`).
+ * Many questions in one call need at most this for each of them.
  */
 #define QUORUM_ENOUGH_PROBES 44040192u
 
@@ -79,12 +88,20 @@ extern "C" {
  * this order; 5 to 7 arise in quorum_query, whichever its walk meets first; 8 to
  * 11 in quorum_check, at the first wrong field. quorum_probe_bound has 1 and 3.
  * (12 is the program's: a line of its input cannot be read.)
+ *
+ * Calls that choose runs check the mask just before the threshold:
+ * quorum_check_chosen has 1, 13, 2, 3 and 4 first, in this order, then 8 to 11;
+ * quorum_probe_bound_chosen has 1, 13 and 3. quorum_query_many has 1, 3, 4 and 14
+ * first, then 13 and 2 for each question before the next, and only then 5 to 7.
  */
 enum {
     QUORUM_ACCEPTED = 0,
     /** No runs or more than 64. Place: ends_len. */
     QUORUM_BAD_RUN_COUNT = 1,
-    /** The threshold is 0 or above the number of runs. Place: threshold. */
+    /**
+     * The threshold is 0 or above the number of runs, or of those chosen. Place:
+     * threshold; from quorum_query_many the number of runs chosen.
+     */
     QUORUM_BAD_THRESHOLD = 2,
     /**
      * An end is below the one before; place: its index. Else the last end is not
@@ -93,11 +110,15 @@ enum {
     QUORUM_BAD_ENDS = 3,
     /** A number is not above the one before it in its run. Place: its index. */
     QUORUM_NOT_RISING = 4,
-    /** An answer is due and the answer buffer is full. Place: parts written. */
+    /**
+     * An answer is due and the answer buffer is full. The place of 5 to 7 is the
+     * number of parts written, from quorum_query_many those of the question that
+     * was stopped.
+     */
     QUORUM_ANSWERS_FULL = 5,
-    /** A part is due and does not fit the certificate buffer. Place: parts written. */
+    /** A part is due and does not fit the certificate buffer. */
     QUORUM_CERTIFICATE_FULL = 6,
-    /** A probe is due and the allowance is used up. Place: parts written. */
+    /** A probe is due and the allowance is used up. */
     QUORUM_ALLOWANCE_SPENT = 7,
     /**
      * A field is cut short, its tag is unknown or its length is not the tag's.
@@ -110,10 +131,20 @@ enum {
      * place: the certificate's length.
      */
     QUORUM_NOT_COVERING = 9,
-    /** A mask names a run that does not exist, or too few runs. */
+    /** A part names a run that does not exist or is not chosen, or too few runs. */
     QUORUM_BAD_MASK = 10,
     /** A named run contradicts its part. */
-    QUORUM_CONTRADICTED = 11
+    QUORUM_CONTRADICTED = 11,
+    /**
+     * A mask that is to choose runs is 0 or names a run that does not exist.
+     * Place: 0; from quorum_query_many the question's index.
+     */
+    QUORUM_BAD_CHOICE = 13,
+    /**
+     * There are not as many thresholds as masks, or fewer than two result places
+     * for each question. Place: masks_len.
+     */
+    QUORUM_BAD_ROWS = 14
 };
 
 /**
@@ -129,6 +160,13 @@ enum {
     QUORUM_QUERY_BYTES = 4,
     QUORUM_QUERY_PROBES = 5,
     QUORUM_QUERY_ROW = 6,
+
+    QUORUM_MANY_QUESTION = 2,
+    QUORUM_MANY_ANSWERS = 3,
+    QUORUM_MANY_PARTS = 4,
+    QUORUM_MANY_BYTES = 5,
+    QUORUM_MANY_PROBES = 6,
+    QUORUM_MANY_ROW = 7,
 
     QUORUM_CHECK_ANSWERS = 2,
     QUORUM_CHECK_PARTS = 3,
@@ -176,6 +214,55 @@ void quorum_query(const uint32_t *numbers, size_t numbers_len,
                   uint64_t result[QUORUM_QUERY_ROW]);
 
 /**
+ * Ask many questions about the same runs: question q is which bins at least
+ * `thresholds[q]` of the runs that `masks[q]` chooses hold.
+ *
+ * The answers of the questions follow each other in `answers`, their
+ * certificates in `certificate`; each certificate is the one that the chosen runs
+ * alone would give, its masks in the numbering of all runs. For each question q
+ * that is finished, results[2 * q] receives the answers and results[2 * q + 1]
+ * the certificate bytes written so far in the whole call, so the certificate of
+ * question q is from results[2 * q - 1], or from 0, up to results[2 * q + 1].
+ *
+ * `result` receives refusal and place, the index of the question that the refusal
+ * belongs to (0 if there is none: 1, 3, 4, 14), then the answers, parts and bytes
+ * written and the probes made in the whole call. All questions are checked before
+ * anything is written, and so are all runs, chosen or not; the counts of these
+ * refusals are 0. After 5 to 7 what was written before stands. Later places of the
+ * three rows are unchanged, also of an accepted call. No questions are accepted.
+ *
+ * The allowance is for all questions together, and no question fills it up again:
+ * QUORUM_ENOUGH_PROBES for each question is always enough (for more than 97 of
+ * them that is more than 32 bits hold), and so is the sum over the questions of
+ * quorum_probe_bound_chosen() for the parts of any true certificate.
+ *
+ * Cost: one pass over the numbers for the first checks of all questions, then for
+ * each question the probes and the writing of its certificate, as quorum_query.
+ *
+ * Example, after the one above: the bins in two of all three runs, those in both
+ * of the first two, and those in the first or the last.
+ *
+ *     uint64_t masks[] = {7, 3, 5};
+ *     uint32_t thresholds[] = {2, 2, 1};
+ *     uint32_t many_answers[3 * QUORUM_ENOUGH_ANSWERS(9)];
+ *     uint8_t certificates[3 * QUORUM_ENOUGH_BYTES(9)];
+ *     uint64_t results[QUORUM_ENOUGH_RESULTS(3)], many[QUORUM_MANY_ROW];
+ *     quorum_query_many(numbers, 9, ends, 3, masks, 3, thresholds, 3,
+ *                       3 * QUORUM_ENOUGH_PROBES, many_answers, 27,
+ *                       certificates, sizeof certificates, results, 6, many);
+ *     // many: 0, 0, 0, 8, 19, 329, 5; many_answers: 5, 9, 5, 9, 1, 2, 5, 9
+ *     // results: 2, 106, 4, 193, 8, 329
+ */
+void quorum_query_many(const uint32_t *numbers, size_t numbers_len,
+                       const uint32_t *ends, size_t ends_len,
+                       const uint64_t *masks, size_t masks_len,
+                       const uint32_t *thresholds, size_t thresholds_len,
+                       uint32_t allowance, uint32_t *answers,
+                       size_t answers_len, uint8_t *certificate,
+                       size_t certificate_len, uint64_t *results,
+                       size_t results_len, uint64_t result[QUORUM_MANY_ROW]);
+
+/**
  * Decide whether a certificate is true for the runs and `threshold`, whoever
  * wrote it.
  *
@@ -197,6 +284,31 @@ void quorum_check(const uint32_t *numbers, size_t numbers_len,
                   const uint32_t *ends, size_t ends_len, uint32_t threshold,
                   const uint8_t *certificate, size_t certificate_len,
                   uint64_t result[QUORUM_CHECK_ROW]);
+
+/**
+ * Decide whether a certificate is true for the runs that `mask` chooses and
+ * `threshold`, whoever wrote it. It is judged by the chosen runs alone; a part
+ * that names another run is refused as 10. With all runs chosen this is
+ * quorum_check.
+ *
+ * `result` receives refusal and place, then the certificate's answers and parts,
+ * both 0 on a refusal, as quorum_check.
+ *
+ * Cost: one pass over the numbers for the first checks, then at most the numbers
+ * of the chosen runs + parts * runs steps.
+ *
+ * Example, after those above: the certificate of the second question.
+ *
+ *     quorum_check_chosen(numbers, 9, ends, 3, masks[1], thresholds[1],
+ *                         certificates + results[1], results[3] - results[1],
+ *                         verdict);
+ *     // verdict: 0, 0, 2, 5
+ */
+void quorum_check_chosen(const uint32_t *numbers, size_t numbers_len,
+                         const uint32_t *ends, size_t ends_len, uint64_t mask,
+                         uint32_t threshold, const uint8_t *certificate,
+                         size_t certificate_len,
+                         uint64_t result[QUORUM_CHECK_ROW]);
 
 /**
  * Find the numbers of one list from `first` to `last`, both included.
@@ -237,6 +349,27 @@ void quorum_between(const uint32_t *list, size_t list_len, uint32_t first,
  */
 void quorum_probe_bound(const uint32_t *ends, size_t ends_len, uint32_t parts,
                         uint64_t result[QUORUM_BOUND_ROW]);
+
+/**
+ * Sum up 2 * parts * (binary digits of the run's length) over the runs that `mask`
+ * chooses. If some true certificate of the chosen runs has so many parts, a
+ * question about them makes no more probes; an allowance of the sum over all
+ * questions is enough for quorum_query_many. With all runs chosen this is
+ * quorum_probe_bound.
+ *
+ * `result` receives refusal and place, and the bound, 0 on a refusal: 1, 13 and 3,
+ * the last for the ends of all runs, chosen or not.
+ *
+ * Cost: one pass over the ends.
+ *
+ * Example: the first two of the runs above, whose lengths have 2 and 3 digits.
+ *
+ *     quorum_probe_bound_chosen(ends, 3, masks[1], 5, bound);
+ *     // bound: 0, 0, 50
+ */
+void quorum_probe_bound_chosen(const uint32_t *ends, size_t ends_len,
+                               uint64_t mask, uint32_t parts,
+                               uint64_t result[QUORUM_BOUND_ROW]);
 
 #ifdef __cplusplus
 }

@@ -1,4 +1,4 @@
-//! The cases of both tables: a shape of input, a number of runs and a
+//! The cases of the tables: a shape of input, a number of runs and a
 //! threshold.
 
 use crate::inputs::{self, Input};
@@ -41,6 +41,13 @@ const CHECKED: [Shape; 3] = [
     ("nearly disjoint", inputs::nearly_disjoint, &[64]),
 ];
 
+const ASKED_TOGETHER: [Shape; 4] = [
+    ("dense", inputs::dense, &[64]),
+    ("sparse", inputs::sparse, &[64]),
+    ("nearly disjoint", inputs::nearly_disjoint, &[64]),
+    ("blocks", inputs::blocks, &[64]),
+];
+
 /// The cases of the first table, in which queries are timed.
 pub fn queried() -> Vec<Case> {
     cases(&QUERIED, |k| {
@@ -54,6 +61,11 @@ pub fn queried() -> Vec<Case> {
 /// The cases of the second table, in which checks are timed.
 pub fn checked() -> Vec<Case> {
     cases(&CHECKED, |k| vec![1, 2, k / 2])
+}
+
+/// The cases of the third table, in which many questions in one call are timed.
+pub fn asked_together() -> Vec<Case> {
+    cases(&ASKED_TOGETHER, |k| vec![k / 2])
 }
 
 fn cases(shapes: &[Shape], thresholds: fn(usize) -> Vec<usize>) -> Vec<Case> {
@@ -78,16 +90,18 @@ pub fn with_inputs(cases: &[Case]) -> impl Iterator<Item = (&[Case], Input)> {
     groups.map(|group| (group, (group[0].input)(group[0].runs)))
 }
 
-/// The cases of both tables that are measured.
+/// The cases of the tables that are measured.
 pub struct Selected {
     /// Those of the first table.
     pub queried: Vec<Case>,
     /// Those of the second table.
     pub checked: Vec<Case>,
+    /// Those of the third table.
+    pub asked_together: Vec<Case>,
 }
 
 /// Returns the cases whose names have the substring. If there are none, an
-/// error that lists all names. Each case of the second table is one of the first
+/// error that lists all names. Each case of the other tables is one of the first
 /// too.
 pub fn select(substring: &str) -> Result<Selected, String> {
     let has = |case: &Case| case.to_string().contains(substring);
@@ -95,6 +109,7 @@ pub fn select(substring: &str) -> Result<Selected, String> {
     let selected = Selected {
         queried: select(queried()),
         checked: select(checked()),
+        asked_together: select(asked_together()),
     };
     if selected.queried.is_empty() {
         let names: Vec<String> = queried().iter().map(Case::to_string).collect();
@@ -117,7 +132,8 @@ mod tests {
     #[test]
     fn all_cases() {
         let all = select("").unwrap();
-        assert_eq!((all.queried.len(), all.checked.len()), (42, 9));
+        let counts = [&all.queried, &all.checked, &all.asked_together].map(Vec::len);
+        assert_eq!(counts, [42, 9, 4]);
         assert_eq!(
             names(&all.queried)[..3],
             ["dense k=2 t=1", "dense k=2 t=2", "dense k=8 t=1"]
@@ -125,9 +141,10 @@ mod tests {
     }
 
     #[test]
-    fn checked_cases_are_queried() {
+    fn all_cases_are_queried() {
         let all = names(&queried());
-        assert!(names(&checked()).iter().all(|name| all.contains(name)));
+        let others = [checked(), asked_together()].concat();
+        assert!(names(&others).iter().all(|name| all.contains(name)));
     }
 
     #[test]
@@ -146,9 +163,10 @@ mod tests {
             names(&some.checked),
             ["dense k=64 t=1", "dense k=64 t=2", "dense k=64 t=32"]
         );
+        assert_eq!(names(&some.asked_together), ["dense k=64 t=32"]);
         let one = select("skewed k=2 t=2").unwrap();
         assert_eq!(names(&one.queried), ["skewed k=2 t=2"]);
-        assert!(one.checked.is_empty());
+        assert!(one.checked.is_empty() && one.asked_together.is_empty());
     }
 
     #[test]

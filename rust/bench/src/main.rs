@@ -1,6 +1,7 @@
 //! Times the library on 1,048,576 numbers beside the reference walk, heap
-//! merges with counting and a sort with counting, and a check of the walk's own
-//! certificate beside the query.
+//! merges with counting and a sort with counting, a check of the walk's own
+//! certificate beside the query, and many questions in one call beside as many
+//! calls.
 //!
 //!     cargo run --release -p bench -- [--only SUBSTRING] [--reps N] [--help]
 //!
@@ -12,6 +13,7 @@ mod baselines;
 mod cases;
 mod checking;
 mod inputs;
+mod many;
 mod options;
 mod ordered;
 mod querying;
@@ -48,6 +50,10 @@ fn main() -> ExitCode {
     if !selected.checked.is_empty() {
         println!();
         checking::report(&selected.checked, repetitions);
+    }
+    if !selected.asked_together.is_empty() {
+        println!();
+        many::report(&selected.asked_together, repetitions);
     }
     ExitCode::SUCCESS
 }

@@ -5,18 +5,19 @@ pub const USAGE: &str = "usage: bench [--only SUBSTRING] [--reps N] [--help]";
 
 /// What `--help` prints after the usage.
 pub const HELP: &str = "
-Times the library on 1,048,576 numbers beside other ways to the answers, and
-checks of certificates beside queries. Standard output has the two tables.
+Times the library on 1,048,576 numbers beside other ways to the answers, checks
+of certificates beside queries, and many questions in one call beside as many
+calls. Standard output has the three tables.
 
   --only SUBSTRING  measure the cases whose name, as `dense k=8 t=2`, has this
   --reps N          repetitions, 1 or more, of which the median counts; 9 if not given
   --help            print this
 
-Columns of both tables:
+Columns of all tables:
   case            shape of the input
   k               number of runs
   t               threshold
-  parts           parts of the certificate
+  parts           parts of the certificate; in the third table of all certificates
 
 Columns of the first table, queries:
   ns/number       time of the library for a number, in nanoseconds
@@ -33,6 +34,13 @@ Columns of the second table, checks of the certificate that the query wrote:
   query ms        time of the query, in milliseconds
   check ms        time of the check, in milliseconds
   check/query     time of the check divided by that of the query
+
+Columns of the third table, questions about all runs with the same threshold:
+  questions       number of questions
+  one ms          time of one call for all questions, in milliseconds
+  calls ms        time of one call for each question, in milliseconds
+  one/calls       time of the one call divided by that of the calls
+  one/same        the same for the library's own way in Rust, all questions together
 ";
 
 /// What is measured, and how often.

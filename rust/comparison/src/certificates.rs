@@ -3,35 +3,48 @@
 
 use quorum::Refusal;
 use reference::testing::{Random, M};
-use reference::{decode, Part};
+use reference::{all_runs, decode, named_runs, Part};
 
-/// Runs and a threshold that pass the first checks.
+/// Runs, those of them that are chosen, and a threshold that pass the first
+/// checks.
 #[derive(Clone, Copy)]
 pub struct Task<'a> {
     /// The runs, from 1 to 64.
     pub runs: &'a [&'a [u32]],
-    /// From 1 to the number of runs.
+    /// The mask of the chosen ones, at least one.
+    pub chosen: u64,
+    /// From 1 to the number of chosen runs.
     pub threshold: u32,
 }
 
+impl<'a> Task<'a> {
+    /// All runs are chosen.
+    pub fn of_all(runs: &'a [&'a [u32]], threshold: u32) -> Self {
+        Task {
+            runs,
+            chosen: all_runs(runs.len()),
+            threshold,
+        }
+    }
+}
+
 impl Task<'_> {
-    /// The mask of the runs that have a number from `first` to `last`.
+    /// The mask of the chosen runs that have a number from `first` to `last`.
     fn holding(&self, first: u32, last: u32) -> u64 {
-        let holds = |run: &[u32]| {
-            let place = run.partition_point(|&x| x < first);
-            run.get(place).is_some_and(|&x| x <= last)
+        let holds = |&i: &usize| {
+            let place = self.runs[i].partition_point(|&x| x < first);
+            self.runs[i].get(place).is_some_and(|&x| x <= last)
         };
-        let bit = |(i, run): (usize, &&[u32])| u64::from(holds(run)) << i;
-        self.runs.iter().enumerate().map(bit).sum()
+        named_runs(self.chosen).filter(holds).map(|i| 1 << i).sum()
     }
 
     fn missing(&self, first: u32, last: u32) -> u64 {
-        u64::MAX >> (64 - self.runs.len()) & !self.holding(first, last)
+        self.chosen & !self.holding(first, last)
     }
 
     /// How many runs a gap names at least.
     fn needed_by_gap(&self) -> u32 {
-        self.runs.len() as u32 - self.threshold + 1
+        self.chosen.count_ones() - self.threshold + 1
     }
 
     /// A gap that names some of the runs that miss it, `None` if too few do.
@@ -50,11 +63,11 @@ impl Task<'_> {
     /// The last number to which a gap that begins at `first` may reach;
     /// `None` if there is no such gap.
     fn farthest(&self, first: u32) -> Option<u32> {
-        let next = |run: &&[u32]| {
-            let place = run.partition_point(|&x| x < first);
-            run.get(place).map_or(1 << 32, |&x| u64::from(x))
+        let next = |i: usize| {
+            let place = self.runs[i].partition_point(|&x| x < first);
+            self.runs[i].get(place).map_or(1 << 32, |&x| u64::from(x))
         };
-        let mut stops: Vec<u64> = self.runs.iter().map(next).collect();
+        let mut stops: Vec<u64> = named_runs(self.chosen).map(next).collect();
         stops.sort_unstable();
         let stop = stops[self.threshold as usize - 1];
         (stop > u64::from(first)).then(|| (stop - 1) as u32)
@@ -151,13 +164,14 @@ impl Task<'_> {
         match random.below(12) {
             // A gap one number too wide, the part beside it narrowed or not.
             0 | 1 => widen(random, parts, i),
-            // A run beyond the last.
-            2 => parts[i] = with_mask(mask | 1 << random.from_to(k.min(63), 63)),
+            // A run that is not chosen: one of the others, or beyond the last.
+            2 => parts[i] = with_mask(mask | self.another(random)),
             // One name more or less, or other names.
             3 => parts[i] = with_mask(mask ^ 1 << random.below(k)),
             4 => {
-                let all = u64::MAX >> (64 - k);
-                let masks = [0, all, u64::MAX, !mask & all, mask & mask.wrapping_sub(1)];
+                let (all, chosen) = (all_runs(k), self.chosen);
+                let fewer = mask & mask.wrapping_sub(1);
+                let masks = [0, all, u64::MAX, chosen, !mask & chosen, fewer];
                 parts[i] = with_mask(random.pick(&masks));
             }
             5 => parts.swap(i, j),
@@ -204,6 +218,21 @@ impl Task<'_> {
                     false => Part::Gap { first, last, mask },
                 });
             }
+        }
+    }
+
+    /// The bit of a run that is not chosen, half the time of one that there is;
+    /// no bit if there is none.
+    fn another(&self, random: &mut Random) -> u64 {
+        let others = all_runs(self.runs.len()) & !self.chosen;
+        let others = match others != 0 && random.one_in(2) {
+            true => others,
+            false => !self.chosen,
+        };
+        let bits: Vec<u64> = named_runs(others).map(|i| 1 << i).collect();
+        match bits.is_empty() {
+            true => 0,
+            false => random.pick(&bits),
         }
     }
 }

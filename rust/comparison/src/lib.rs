@@ -9,11 +9,14 @@
 
 pub mod broken;
 pub mod certificates;
+pub mod lent;
+pub mod many;
 pub mod printed;
 pub mod program;
 pub mod question;
 pub mod shapes;
 pub mod texts;
+pub mod verdicts;
 
 use std::fmt;
 

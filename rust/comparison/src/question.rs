@@ -1,12 +1,10 @@
 //! One query asked of both sides, with all that they return and write.
 
+use crate::lent::{noise, Lent};
 use crate::Row;
 use quorum::{Counts, Refusal, Stopped};
 use reference::testing::Random;
 use std::fmt;
-
-/// Places before and after a lent buffer that must not change.
-const MARGIN: usize = 5;
 
 /// The runs and the threshold of a query.
 #[derive(Clone, Copy)]
@@ -44,6 +42,13 @@ impl fmt::Debug for Question<'_> {
             Row(numbers)
         )
     }
+}
+
+/// The reference's refusal in the terms of `quorum`.
+pub fn refusal_of(refusal: reference::Refusal) -> Refusal {
+    let reference::Refusal { number, place } = refusal;
+    let number = number.into();
+    Refusal { number, place }
 }
 
 /// The reference's outcome in the terms of `quorum`.
@@ -86,24 +91,6 @@ pub fn row_of(outcome: reference::Outcome) -> [u64; 6] {
     }
 }
 
-/// A buffer with a margin on both sides, all filled with noise.
-#[derive(Default)]
-struct Lent<T> {
-    places: Vec<T>,
-}
-
-impl<T: Copy> Lent<T> {
-    fn fill(&mut self, length: usize, noise: impl FnMut(usize) -> T) {
-        self.places.clear();
-        self.places.extend((0..length + 2 * MARGIN).map(noise));
-    }
-
-    fn lend(&mut self) -> &mut [T] {
-        let end = self.places.len() - MARGIN;
-        &mut self.places[MARGIN..end]
-    }
-}
-
 /// The buffers of one side.
 #[derive(Default)]
 struct Buffers {
@@ -112,11 +99,10 @@ struct Buffers {
 }
 
 impl Buffers {
-    fn fill(&mut self, limits: Limits, noise: u32) {
-        let word = |i: usize| (i as u32).wrapping_mul(0x9e37_79b1) ^ noise;
-        self.answers.fill(limits.answers, word);
+    fn fill(&mut self, limits: Limits, seed: u64) {
+        self.answers.fill(limits.answers, |i| noise(seed, i) as u32);
         self.certificate
-            .fill(limits.bytes, |i| (word(i) >> 24) as u8);
+            .fill(limits.bytes, |i| noise(seed, i) as u8);
     }
 }
 
@@ -158,9 +144,8 @@ impl Comparer {
             ends,
             threshold,
         } = question;
-        let noise = Random(seed).word();
-        self.found.fill(limits, noise);
-        self.expected.fill(limits, noise);
+        self.found.fill(limits, seed);
+        self.expected.fill(limits, seed);
         let expected = reference::query(
             numbers,
             ends,
@@ -180,9 +165,12 @@ impl Comparer {
             let result = quorum::query(numbers, ends, threshold, allowance, answers, certificate);
             assert_eq!(result, result_of(expected), "{}", context());
         }
-        let place = difference(&self.found.answers, &self.expected.answers);
+        let place = self.found.answers.difference(&self.expected.answers);
         assert_eq!(place, None, "answers, {}", context());
-        let place = difference(&self.found.certificate, &self.expected.certificate);
+        let place = self
+            .found
+            .certificate
+            .difference(&self.expected.certificate);
         assert_eq!(place, None, "certificate, {}", context());
         self.seen[row_of(expected)[0] as usize] += 1;
         expected
@@ -206,12 +194,6 @@ impl Comparer {
     }
 }
 
-/// The first place at which two buffers differ, counted in the lent part.
-fn difference<T: Copy + PartialEq>(a: &Lent<T>, b: &Lent<T>) -> Option<isize> {
-    let place = (0..a.places.len()).find(|&i| a.places[i] != b.places[i])?;
-    Some(place as isize - MARGIN as isize)
-}
-
 /// Exactly what the whole walk needs; `None` if the first checks refuse.
 pub fn whole(question: Question) -> Option<Limits> {
     let trace = reference::trace(question.numbers, question.ends, question.threshold).ok()?;
@@ -224,8 +206,8 @@ pub fn whole(question: Question) -> Option<Limits> {
     })
 }
 
-/// Limits of every kind for a walk that needs `whole`.
-fn limits_near(random: &mut Random, whole: Limits) -> Vec<Limits> {
+/// Limits of every kind for a call that needs `whole`.
+pub fn limits_near(random: &mut Random, whole: Limits) -> Vec<Limits> {
     let exact = whole.allowance;
     let mut all = Vec::new();
     for allowance in [

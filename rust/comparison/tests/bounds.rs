@@ -1,12 +1,13 @@
 //! The bound 2 × d × b on the probes of a run against the fewest parts of any
-//! true certificate, found without the walk, and `probe_bound`.
+//! true certificate, found without the walk.
 
+use comparison::many::{self, whole as whole_many, Call};
 use comparison::question::{whole, Comparer, Limits, Question};
 use comparison::seeds;
 use comparison::shapes::any_runs;
-use quorum::{probe_bound, Refusal};
-use reference::testing::{lay_out, slices, Random, M};
-use reference::{digits, fewest_parts, is_true, trace, Outcome};
+use quorum::{probe_bound, probe_bound_chosen};
+use reference::testing::{choose, lay_out, slices, Random};
+use reference::{all_runs, digits, fewest_parts, is_true, trace, trace_chosen, Outcome};
 
 /// Compares one walk with the fewest parts possible, at every threshold.
 fn within_the_bound(seed: u64, runs: &[Vec<u32>]) {
@@ -87,93 +88,45 @@ fn many_short_runs() {
     random_walks(23, 20, [10, 64], 2);
 }
 
-/// What the bound should be.
-fn expected_bound(ends: &[u32], parts: u32) -> Result<u64, Refusal> {
-    let k = ends.len();
-    let refusal = |number, place: usize| {
-        Err(Refusal {
-            number,
-            place: place as u64,
-        })
-    };
-    if k == 0 || k > 64 {
-        return refusal(1, k);
-    }
-    if let Some(i) = (1..k).find(|&i| ends[i] < ends[i - 1]) {
-        return refusal(3, i);
-    }
-    if ends[k - 1] > 1_048_576 {
-        return refusal(3, k);
-    }
-    Ok(reference::probe_bound(ends, parts.into()))
-}
-
-fn compare_bound(seed: u64, ends: &[u32], parts: u32) -> Result<u64, Refusal> {
-    let context = || format!("seed {seed}: {parts} parts, ends {ends:?}");
-    let expected = expected_bound(ends, parts);
-    assert_eq!(probe_bound(ends, parts), expected, "{}", context());
-    let row = match expected {
-        Ok(bound) => [0, 0, bound],
-        Err(Refusal { number, place }) => [number, place, 0],
-    };
-    assert_eq!(quorum::ffi::probe_bound(ends, parts), row, "{}", context());
-    expected
-}
-
-#[test]
-fn edges_of_probe_bound() {
-    for parts in [0, 1, 2, 1_048_576, 2_097_153, M - 1, M] {
-        for ends in [
-            &[][..],
-            &[0],
-            &[1],
-            &[1_048_575],
-            &[1_048_576],
-            &[1_048_577],
-            &[M],
-            &[0, 0, 0],
-            &[5, 4],
-            &[M, 0],
-            &[0, M],
-            &[3, 7, 9],
-            &[524_288, 1_048_576],
-            &[1_048_576; 64],
-            &[1_048_577; 64],
-            &[1_048_576; 65],
-            &[7; 65],
-        ] {
-            let _ = compare_bound(0, ends, parts);
+/// Compares questions about every choice of the runs, in one call, with the
+/// fewest parts possible for the chosen runs: each run's probes and the sum over
+/// all questions.
+fn chosen_within_the_bound(seed: u64, random: &mut Random, runs: &[Vec<u32>]) {
+    let mut call = Call::new(runs, &[], &[]);
+    let mut allowance = 0;
+    for mask in 1..=all_runs(runs.len()) {
+        let threshold = random.from_to(1, mask.count_ones() as usize) as u32;
+        call.masks.push(mask);
+        call.thresholds.push(threshold);
+        let fewest = fewest_parts(&choose(runs, mask), threshold) as u32;
+        let walk = trace_chosen(&call.numbers, &call.ends, mask, threshold).unwrap();
+        let mut sum = 0;
+        for (i, (run, &probes)) in runs.iter().zip(&walk.probes).enumerate() {
+            let digits = (mask >> i & 1) * u64::from(digits(run.len() as u64));
+            let bound = 2 * u64::from(fewest) * digits;
+            assert!(probes <= bound, "seed {seed}: run {i}, {call:?}");
+            sum += bound;
         }
-        let sixty_four: Vec<u32> = (1..=64).map(|i| i * 16_384).collect();
-        let bound = compare_bound(0, &sixty_four, parts);
-        assert_eq!(bound, Ok(2 * 64 * 15 * u64::from(parts)));
+        let bound = probe_bound_chosen(&call.ends, mask, fewest);
+        assert_eq!(bound, Ok(sum), "seed {seed}: mask {mask}, {call:?}");
+        allowance += sum as u32;
     }
+    let whole = whole_many(&call).unwrap();
+    let limits = Limits { allowance, ..whole };
+    let row = many::Comparer::new().compare(seed, &call, limits, call.results());
+    assert_eq!(
+        (row[0], row[6]),
+        (0, whole.allowance.into()),
+        "seed {seed}: {call:?}"
+    );
 }
 
 #[test]
-fn random_probe_bound() {
-    let mut refused = [0; 4];
-    for seed in seeds(24, 100_000) {
+fn every_choice() {
+    for seed in seeds(25, 1_500) {
         let mut random = Random(seed);
-        let k = random.pick(&[0, 1, 1, 2, 3, 3, 5, 9, 30, 63, 64, 65, 70]);
-        let limit = random.pick(&[3, 40, 1_048_577, 1_048_577, 1_048_600]);
-        let mut ends: Vec<u32> = (0..k).map(|_| random.below(limit) as u32).collect();
-        if !random.one_in(6) {
-            ends.sort_unstable();
-        }
-        if random.one_in(20) && k > 0 {
-            let i = random.below(k);
-            ends[i] = random.word();
-        }
-        let parts = random.pick(&[0, 1, 17, 1_000, M, random_parts(seed)]);
-        match compare_bound(seed, &ends, parts) {
-            Ok(_) => refused[0] += 1,
-            Err(refusal) => refused[refusal.number as usize] += 1,
-        }
+        let k = random.from_to(1, 5);
+        let runs = any_runs(&mut random, k, 7);
+        chosen_within_the_bound(seed, &mut random, &runs);
     }
-    assert!(refused[0] > 10_000 && refused[1] > 1_000 && refused[3] > 1_000);
-}
-
-fn random_parts(seed: u64) -> u32 {
-    Random(!seed).word()
 }

@@ -1,97 +1,21 @@
 //! The checker: true certificates of every form and damaged ones.
 
 use comparison::broken::{any_threshold, break_rows};
-use comparison::certificates::{compare_parts, damage_bytes, Task};
+use comparison::certificates::{damage_bytes, Task};
 use comparison::question::Question;
 use comparison::seeds;
 use comparison::shapes::{any_runs, shaped_runs, Shape, SHAPES};
-use quorum::{Checked, Refusal};
+use comparison::verdicts::{walks_own, Seen};
+use quorum::Refusal;
 use reference::testing::{checked_instances, gap, hit, lay_out, slices, Random, M, THREE_RUNS};
-use reference::{decode, encode, is_true, trace, Part};
-
-/// How many certificates were seen with each verdict; 0 stands for true.
-#[derive(Default)]
-struct Seen([u64; 12]);
-
-impl Seen {
-    fn all(&self) -> u64 {
-        self.0.iter().sum()
-    }
-
-    fn met(&self, numbers: &[usize], times: u64) {
-        let Seen(seen) = self;
-        println!("{} certificates, by refusal {seen:?}", self.all());
-        assert!(numbers.iter().all(|&i| seen[i] >= times), "{seen:?}");
-    }
-
-    /// Compares the verdicts and rows of both sides, and the parts that they
-    /// read. Returns the refusal's number, 0 for a true certificate.
-    fn compare(&mut self, seed: u64, question: Question, bytes: &[u8]) -> u64 {
-        let Question {
-            numbers,
-            ends,
-            threshold,
-        } = question;
-        let context = || format!("seed {seed}: certificate {bytes:?}, {question:?}");
-        let (result, row) = match reference::check(numbers, ends, threshold, bytes) {
-            reference::Verdict::Valid { answers, parts } => {
-                let checked = Checked {
-                    answers: answers as usize,
-                    parts: parts as usize,
-                };
-                (Ok(checked), [0, 0, answers, parts])
-            }
-            reference::Verdict::Invalid { number, place } => {
-                let number = number.into();
-                let refusal = Refusal { number, place };
-                (Err(refusal), [number, place, 0, 0])
-            }
-        };
-        let found = quorum::check(numbers, ends, threshold, bytes);
-        assert_eq!(found, result, "{}", context());
-        let found = quorum::ffi::check(numbers, ends, threshold, bytes);
-        assert_eq!(found, row, "{}", context());
-        let is_answer = |part: &&quorum::Part| matches!(part, quorum::Part::Answer { .. });
-        let read = compare_parts(seed, bytes).map(|parts| Checked {
-            answers: parts.iter().filter(is_answer).count(),
-            parts: parts.len(),
-        });
-        if matches!(row[0], 0 | Refusal::BAD_FIELD) {
-            assert_eq!(read, result, "{}", context());
-        }
-        self.0[row[0] as usize] += 1;
-        row[0]
-    }
-
-    /// The same, and compares with the definition of truth.
-    fn compare_with_truth(&mut self, seed: u64, task: Task, bytes: &[u8]) -> u64 {
-        let (numbers, ends) = lay_out(task.runs);
-        let question = Question {
-            numbers: &numbers,
-            ends: &ends,
-            threshold: task.threshold,
-        };
-        let number = self.compare(seed, question, bytes);
-        let truth = decode(bytes).is_some_and(|parts| is_true(task.runs, task.threshold, &parts));
-        assert_eq!(truth, number == 0, "seed {seed}: {question:?}");
-        number
-    }
-}
-
-fn walks_own(task: Task) -> Vec<Part> {
-    let (numbers, ends) = lay_out(task.runs);
-    trace(&numbers, &ends, task.threshold).unwrap().parts
-}
+use reference::{encode, trace};
 
 /// The instances of docs/SPECIFICATION.md.
 #[test]
 fn every_instance() {
     let (numbers, ends) = lay_out(&THREE_RUNS);
     let runs = slices(&THREE_RUNS);
-    let task = Task {
-        runs: &runs,
-        threshold: 2,
-    };
+    let task = Task::of_all(&runs, 2);
     let mut seen = Seen::default();
     for (bytes, expected) in checked_instances() {
         assert_eq!(reference::check(&numbers, &ends, 2, &bytes), expected);
@@ -110,10 +34,7 @@ fn compare_random(group: u64, cases: u64, runs: [usize; 2], length: usize) -> Se
         let length = random.below(length + 1);
         let runs = any_runs(&mut random, k, length);
         let runs = slices(&runs);
-        let task = Task {
-            runs: &runs,
-            threshold: random.from_to(1, k) as u32,
-        };
+        let task = Task::of_all(&runs, random.from_to(1, k) as u32);
         let own = walks_own(task);
         let mut rewritten = own.clone();
         for _ in 0..random.from_to(1, 6) {
@@ -172,10 +93,7 @@ fn long_runs() {
 /// The true certificate of three runs with each byte set to each value.
 #[test]
 fn every_byte() {
-    let task = Task {
-        runs: &THREE_RUNS,
-        threshold: 2,
-    };
+    let task = Task::of_all(&THREE_RUNS, 2);
     let whole = encode(&walks_own(task));
     let mut seen = Seen::default();
     for place in 0..whole.len() {
@@ -258,10 +176,7 @@ fn every_mask() {
     let mut seen = Seen::default();
     let runs: [&[u32]; 3] = [&[7], &[7, 8], &[8]];
     for threshold in 1..=3 {
-        let task = Task {
-            runs: &runs,
-            threshold,
-        };
+        let task = Task::of_all(&runs, threshold);
         for mask in (0..16).chain([1 << 63, u64::MAX, 7 | 1 << 62]) {
             let all = 7;
             for value in [6, 7, 8, 9] {

@@ -30,6 +30,35 @@ extern "C" {
         certificate_len: usize,
         result: *mut [u64; 4],
     );
+    fn quorum_query_many(
+        numbers: *const u32,
+        numbers_len: usize,
+        ends: *const u32,
+        ends_len: usize,
+        masks: *const u64,
+        masks_len: usize,
+        thresholds: *const u32,
+        thresholds_len: usize,
+        allowance: u32,
+        answers: *mut u32,
+        answers_len: usize,
+        certificate: *mut u8,
+        certificate_len: usize,
+        results: *mut u64,
+        results_len: usize,
+        result: *mut [u64; 7],
+    );
+    fn quorum_check_chosen(
+        numbers: *const u32,
+        numbers_len: usize,
+        ends: *const u32,
+        ends_len: usize,
+        mask: u64,
+        threshold: u32,
+        certificate: *const u8,
+        certificate_len: usize,
+        result: *mut [u64; 4],
+    );
     fn quorum_between(
         list: *const u32,
         list_len: usize,
@@ -38,6 +67,13 @@ extern "C" {
         part: *mut [u64; 2],
     );
     fn quorum_probe_bound(ends: *const u32, ends_len: usize, parts: u32, result: *mut [u64; 3]);
+    fn quorum_probe_bound_chosen(
+        ends: *const u32,
+        ends_len: usize,
+        mask: u64,
+        parts: u32,
+        result: *mut [u64; 3],
+    );
 }
 
 /// Returns refusal, place, answers, parts, bytes and probes.
@@ -101,6 +137,90 @@ pub fn check(numbers: &[u32], ends: &[u32], threshold: u32, certificate: &[u8]) 
     result
 }
 
+/// Returns refusal, place, question, answers, parts, bytes and probes.
+///
+/// ```
+/// let (mut answers, mut certificate, mut results) = ([0; 2], [0; 106], [0; 4]);
+/// let row = quorum::ffi::query_many(
+///     &[7, 9, 7],
+///     &[2, 3],
+///     &[0b11, 0b10],
+///     &[2, 1],
+///     0,
+///     &mut answers,
+///     &mut certificate,
+///     &mut results,
+/// );
+/// assert_eq!(row, [0, 0, 0, 2, 6, 106, 0]);
+/// assert_eq!(results, [1, 53, 2, 106]);
+/// ```
+#[allow(clippy::too_many_arguments)]
+pub fn query_many(
+    numbers: &[u32],
+    ends: &[u32],
+    masks: &[u64],
+    thresholds: &[u32],
+    allowance: u32,
+    answers: &mut [u32],
+    certificate: &mut [u8],
+    results: &mut [u64],
+) -> [u64; 7] {
+    let mut result = [u64::MAX; 7];
+    // SAFETY: as in `query`.
+    unsafe {
+        quorum_query_many(
+            numbers.as_ptr(),
+            numbers.len(),
+            ends.as_ptr(),
+            ends.len(),
+            masks.as_ptr(),
+            masks.len(),
+            thresholds.as_ptr(),
+            thresholds.len(),
+            allowance,
+            answers.as_mut_ptr(),
+            answers.len(),
+            certificate.as_mut_ptr(),
+            certificate.len(),
+            results.as_mut_ptr(),
+            results.len(),
+            &mut result,
+        );
+    }
+    result
+}
+
+/// Returns refusal, place, answers and parts.
+///
+/// ```
+/// // No run is chosen.
+/// assert_eq!(quorum::ffi::check_chosen(&[7], &[1], 0, 1, &[]), [13, 0, 0, 0]);
+/// ```
+pub fn check_chosen(
+    numbers: &[u32],
+    ends: &[u32],
+    mask: u64,
+    threshold: u32,
+    certificate: &[u8],
+) -> [u64; 4] {
+    let mut result = [u64::MAX; 4];
+    // SAFETY: as in `check`.
+    unsafe {
+        quorum_check_chosen(
+            numbers.as_ptr(),
+            numbers.len(),
+            ends.as_ptr(),
+            ends.len(),
+            mask,
+            threshold,
+            certificate.as_ptr(),
+            certificate.len(),
+            &mut result,
+        );
+    }
+    result
+}
+
 /// Returns the places of the list that the part has.
 ///
 /// ```
@@ -122,5 +242,17 @@ pub fn probe_bound(ends: &[u32], parts: u32) -> [u64; 3] {
     let mut result = [u64::MAX; 3];
     // SAFETY: as in `check`.
     unsafe { quorum_probe_bound(ends.as_ptr(), ends.len(), parts, &mut result) };
+    result
+}
+
+/// Returns refusal, place and bound.
+///
+/// ```
+/// assert_eq!(quorum::ffi::probe_bound_chosen(&[3, 7, 9], 0b11, 5), [0, 0, 50]);
+/// ```
+pub fn probe_bound_chosen(ends: &[u32], mask: u64, parts: u32) -> [u64; 3] {
+    let mut result = [u64::MAX; 3];
+    // SAFETY: as in `check`.
+    unsafe { quorum_probe_bound_chosen(ends.as_ptr(), ends.len(), mask, parts, &mut result) };
     result
 }

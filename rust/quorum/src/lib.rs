@@ -2,10 +2,14 @@
 //! the proved library behind `include/quorum.h`.
 //!
 //! * [`query()`] writes the numbers held often enough, with a certificate.
-//! * [`check()`] decides whether a certificate is true.
+//! * [`query_many()`] does so for many questions about the same runs, each about
+//!   some of them; [`finished()`] hands out each question's own.
+//! * [`check()`] decides whether a certificate is true, [`check_chosen()`]
+//!   whether it is for some of the runs.
 //! * [`parts()`] reads a certificate.
 //! * [`between()`] finds the numbers of one list between two numbers.
-//! * [`probe_bound()`] gives an allowance of probes that is enough.
+//! * [`probe_bound()`] gives an allowance of probes that is enough,
+//!   [`probe_bound_chosen()`] one for some of the runs.
 //!
 //! # Terms
 //!
@@ -19,7 +23,8 @@
 //! comes first as in a row of offsets.
 //!
 //! A *mask* is a 64-bit number that names runs: bit `i` is run `i`, bit 0 being
-//! the lowest.
+//! the lowest. The runs that a question is about are *chosen* by a mask; all
+//! masks, those of a certificate too, are in the numbering of all runs.
 //!
 //! An *answer* is a number that at least `threshold` runs hold. A *certificate*
 //! shows which numbers are answers and that no other is. It is a row of bytes,
@@ -80,13 +85,21 @@
 #![warn(missing_docs)]
 
 mod certificate;
+mod chosen;
 #[allow(unsafe_code)]
 pub mod ffi;
+mod finished;
 mod limits;
+mod many;
 mod refusal;
 
 pub use certificate::{parts, Part, Parts, Runs, ANSWER_SIZE, GAP_SIZE, TAG_ANSWER, TAG_GAP};
-pub use limits::{enough_answers, enough_bytes, ENOUGH_PROBES, LAST_BIN, MAX_NUMBERS, MAX_RUNS};
+pub use chosen::{check_chosen, probe_bound_chosen};
+pub use finished::{finished, Answered, Finished};
+pub use limits::{
+    enough_answers, enough_bytes, enough_results, ENOUGH_PROBES, LAST_BIN, MAX_NUMBERS, MAX_RUNS,
+};
+pub use many::{query_many, StoppedMany};
 pub use refusal::{Refusal, Stopped};
 
 /// The README's lines are compiled and run as a documentation test.
@@ -95,6 +108,8 @@ pub use refusal::{Refusal, Stopped};
 struct Readme;
 
 /// What a query wrote and probed: the result of [`query()`], and in [`Stopped`].
+/// Of many questions the sums: the result of [`query_many()`], and in
+/// [`StoppedMany`].
 ///
 /// ```
 /// // One run with no numbers: the certificate is one gap.
@@ -115,7 +130,8 @@ pub struct Counts {
     pub probes: u64,
 }
 
-/// What a true certificate has: the result of [`check()`], with an example.
+/// What a true certificate has: the result of [`check()`], with an example, and
+/// of [`check_chosen()`].
 #[derive(Clone, Copy, Debug, PartialEq, Eq, Hash)]
 pub struct Checked {
     /// How many of its parts are answers.
@@ -243,7 +259,12 @@ pub fn check(
     threshold: u32,
     certificate: &[u8],
 ) -> Result<Checked, Refusal> {
-    match ffi::check(numbers, ends, threshold, certificate) {
+    checked(ffi::check(numbers, ends, threshold, certificate))
+}
+
+/// What a check returns for the row that the library writes.
+fn checked(row: [u64; 4]) -> Result<Checked, Refusal> {
+    match row {
         [0, _, answers, parts] => Ok(Checked {
             answers: answers as usize,
             parts: parts as usize,
@@ -308,7 +329,12 @@ pub fn between(list: &[u32], first: u32, last: u32) -> &[u32] {
 /// # Ok::<(), Refusal>(())
 /// ```
 pub fn probe_bound(ends: &[u32], parts: u32) -> Result<u64, Refusal> {
-    match ffi::probe_bound(ends, parts) {
+    bounded(ffi::probe_bound(ends, parts))
+}
+
+/// What a bound returns for the row that the library writes.
+fn bounded(row: [u64; 3]) -> Result<u64, Refusal> {
+    match row {
         [0, _, bound] => Ok(bound),
         [number, place, _] => Err(Refusal { number, place }),
     }

@@ -24,9 +24,10 @@ pub const MAX_NUMBERS: usize = 1_048_576;
 /// ```
 pub const LAST_BIN: u32 = u32::MAX;
 
-/// An allowance that is enough for any runs: refusal
+/// An allowance that is enough for one question about any runs: refusal
 /// [`ALLOWANCE_SPENT`](crate::Refusal::ALLOWANCE_SPENT) never occurs with it, nor
-/// with a larger one such as `u32::MAX`.
+/// with a larger one such as `u32::MAX`. Many questions in one call need at most
+/// this for each of them.
 ///
 /// A search moves its run on by at least one number. So in a run of n numbers
 /// there are at most n searches, each of at most 2 × b probes, b being the
@@ -44,7 +45,7 @@ pub const ENOUGH_PROBES: u32 = 44_040_192;
 
 /// A length of the answer buffer that is enough for any runs of so many
 /// numbers: refusal [`ANSWERS_FULL`](crate::Refusal::ANSWERS_FULL) never occurs
-/// (proved).
+/// (proved). Many questions in one call need at most this for each of them.
 ///
 /// ```
 /// assert_eq!(quorum::enough_answers(9), 9);
@@ -59,7 +60,8 @@ pub const fn enough_answers(numbers: usize) -> usize {
 /// `usize::MAX` stands for a length above it, of more numbers than a query
 /// takes.
 ///
-/// There may be a gap and an answer for each number, and a gap at the end.
+/// There may be a gap and an answer for each number, and a gap at the end. Many
+/// questions in one call need at most this for each of them.
 ///
 /// ```
 /// let mut certificate = [0; quorum::enough_bytes(9)];
@@ -69,4 +71,15 @@ pub const fn enough_bytes(numbers: usize) -> usize {
     numbers
         .saturating_mul(GAP_SIZE + ANSWER_SIZE)
         .saturating_add(GAP_SIZE)
+}
+
+/// The length of the row of results that so many questions need: two places for
+/// each. `usize::MAX` stands for a length above it.
+///
+/// ```
+/// let mut results = [0; quorum::enough_results(3)];
+/// assert_eq!(results.len(), 6);
+/// ```
+pub const fn enough_results(questions: usize) -> usize {
+    questions.saturating_mul(2)
 }

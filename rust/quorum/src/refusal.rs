@@ -31,7 +31,15 @@ pub struct Refusal {
 /// [`query()`](crate::query()) and [`check()`](crate::check()) test 1 to 4 first
 /// and in this order. 5 to 7 end a query, and 8 to 11 a check, where one of them
 /// is first met. [`probe_bound()`](crate::probe_bound()) tests 1 and 3,
-/// [`parts()`](crate::parts()) 8.
+/// [`parts()`](crate::parts()) 8. (12 is the program's: a line of its input
+/// cannot be read.)
+///
+/// Calls that choose runs test a mask just before the threshold:
+/// [`check_chosen()`](crate::check_chosen()) tests 1, 13, 2, 3 and 4 first and in
+/// this order, [`probe_bound_chosen()`](crate::probe_bound_chosen()) 1, 13 and 3.
+/// [`query_many()`](crate::query_many()) tests 1, 3, 4 and 14 first, and then 13
+/// and 2 for each question before the next; the parts that its place of 5 to 7
+/// counts are those of the question that was stopped.
 ///
 /// ```
 /// use quorum::{query, Refusal};
@@ -51,8 +59,10 @@ impl Refusal {
     /// is the number of runs.
     pub const BAD_RUN_COUNT: u64 = 1;
 
-    /// The threshold is 0 or above the number of runs. The place is the
-    /// threshold.
+    /// The threshold is 0 or above the number of runs, or of those that a mask
+    /// chooses. The place is the threshold; from
+    /// [`query_many()`](crate::query_many()) it is the number of runs that the
+    /// question's mask names.
     pub const BAD_THRESHOLD: u64 = 2;
 
     /// An end is below the one before, the place being its index. Or the last
@@ -88,20 +98,31 @@ impl Refusal {
     /// uncovered, the place being the certificate's length.
     pub const NOT_COVERING: u64 = 9;
 
-    /// A mask names a run that does not exist, or too few runs. The place is
-    /// the offset of the part's tag.
+    /// A part's mask names a run that does not exist or is not chosen, or too
+    /// few runs. The place is the offset of the part's tag.
     pub const BAD_MASK: u64 = 10;
 
     /// A named run contradicts its part: it does not hold the answer, or it has
     /// a number in the gap. The place is the offset of the part's tag.
     pub const CONTRADICTED: u64 = 11;
+
+    /// The mask that is to choose runs is 0 or names a run that does not exist.
+    /// The place is 0; from [`query_many()`](crate::query_many()) it is the
+    /// question's index.
+    pub const BAD_CHOICE: u64 = 13;
+
+    /// There are not as many thresholds as masks, or fewer than two result
+    /// places for each question. The place is the number of masks.
+    pub const BAD_ROWS: u64 = 14;
 }
 
 impl fmt::Display for Refusal {
     fn fmt(&self, f: &mut fmt::Formatter<'_>) -> fmt::Result {
         let ground = match self.number {
             Refusal::BAD_RUN_COUNT => "no runs, or more than 64",
-            Refusal::BAD_THRESHOLD => "the threshold is 0 or above the number of runs",
+            Refusal::BAD_THRESHOLD => {
+                "the threshold is 0 or above the number of runs, or of those chosen"
+            }
             Refusal::BAD_ENDS => {
                 "an end is below the one before, or the last end is not the number of numbers \
                  or is above 1,048,576"
@@ -120,8 +141,15 @@ impl fmt::Display for Refusal {
                  its first, or nothing is uncovered before it; or, at the certificate's end, a \
                  number is still uncovered"
             }
-            Refusal::BAD_MASK => "a mask names a run that does not exist, or too few runs",
+            Refusal::BAD_MASK => {
+                "a part names a run that does not exist or is not chosen, or too few runs"
+            }
             Refusal::CONTRADICTED => "a named run contradicts its part",
+            Refusal::BAD_CHOICE => "a mask chooses no run, or one that does not exist",
+            Refusal::BAD_ROWS => {
+                "there are not as many thresholds as masks, or fewer than two result places for \
+                 each question"
+            }
             _ => "an unknown ground",
         };
         write!(f, "refusal {} at {}: {ground}", self.number, self.place)
@@ -167,16 +195,21 @@ impl fmt::Display for Stopped {
     fn fmt(&self, f: &mut fmt::Formatter<'_>) -> fmt::Result {
         let Stopped { refusal, counts } = self;
         write!(f, "{refusal}")?;
-        // Each answer has a part, so without parts nothing was written.
-        if counts.parts > 0 {
-            write!(
-                f,
-                "; written before: answers {}, parts {}, bytes {}",
-                counts.answers, counts.parts, counts.bytes
-            )?;
-        }
-        Ok(())
+        tell_written(f, counts)
     }
+}
+
+/// Adds what was written before a refusal, if anything was.
+pub(crate) fn tell_written(f: &mut fmt::Formatter<'_>, counts: &Counts) -> fmt::Result {
+    // Each answer has a part, so without parts nothing was written.
+    if counts.parts == 0 {
+        return Ok(());
+    }
+    write!(
+        f,
+        "; written before: answers {}, parts {}, bytes {}",
+        counts.answers, counts.parts, counts.bytes
+    )
 }
 
 /// Its text has the refusal's, so the refusal is no source of its own.

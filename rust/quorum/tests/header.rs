@@ -84,6 +84,8 @@ fn constants_are_equal() {
         ("NOT_COVERING", Refusal::NOT_COVERING),
         ("BAD_MASK", Refusal::BAD_MASK),
         ("CONTRADICTED", Refusal::CONTRADICTED),
+        ("BAD_CHOICE", Refusal::BAD_CHOICE),
+        ("BAD_ROWS", Refusal::BAD_ROWS),
         ("MAX_RUNS", quorum::MAX_RUNS as u64),
         ("MAX_NUMBERS", quorum::MAX_NUMBERS as u64),
         ("LAST_BIN", quorum::LAST_BIN.into()),
@@ -132,6 +134,36 @@ fn places_of_results() {
     assert_eq!(at(&row, "CHECK_ANSWERS"), 2);
     assert_eq!(at(&row, "CHECK_PARTS"), 6);
 
+    let (mut answers, mut certificate, mut results) = ([0; 8], [0; 329], [0; 6]);
+    let masks = [7, 3, 5];
+    let mut ask_many = |allowance| {
+        ffi::query_many(
+            &numbers,
+            &ends,
+            &masks,
+            &[2, 2, 1],
+            allowance,
+            &mut answers,
+            &mut certificate,
+            &mut results,
+        )
+    };
+    let row = ask_many(5);
+    assert_eq!(row.len(), length("MANY_ROW"));
+    assert_eq!(at(&row, "MANY_ANSWERS"), 8);
+    assert_eq!(at(&row, "MANY_PARTS"), 19);
+    assert_eq!(at(&row, "MANY_BYTES"), 329);
+    assert_eq!(at(&row, "MANY_PROBES"), 5);
+    let refused = ask_many(4);
+    assert_eq!(at(&refused, "REFUSAL"), Refusal::ALLOWANCE_SPENT);
+    assert_eq!(at(&refused, "PLACE"), 3);
+    assert_eq!(at(&refused, "MANY_QUESTION"), 1);
+
+    let row = ffi::check_chosen(&numbers, &ends, 3, 2, &certificate[106..193]);
+    assert_eq!(row.len(), length("CHECK_ROW"));
+    assert_eq!(at(&row, "CHECK_ANSWERS"), 2);
+    assert_eq!(at(&row, "CHECK_PARTS"), 5);
+
     let part = ffi::between(&[2, 5, 9], 3, 9);
     let row = [part.start, part.end];
     assert_eq!(row.len(), length("BETWEEN_ROW"));
@@ -141,6 +173,9 @@ fn places_of_results() {
     let row = ffi::probe_bound(&ends, 6);
     assert_eq!(row.len(), length("BOUND_ROW"));
     assert_eq!(at(&row, "BOUND_PROBES"), 84);
+    let row = ffi::probe_bound_chosen(&ends, 3, 5);
+    assert_eq!(row.len(), length("BOUND_ROW"));
+    assert_eq!(at(&row, "BOUND_PROBES"), 50);
 }
 
 #[test]

@@ -1,5 +1,7 @@
 //! The parts of a certificate, their bytes, and what makes them true.
 
+use crate::mask::{all_runs, named_runs};
+
 const ANSWER_TAG: u8 = 1;
 const GAP_TAG: u8 = 2;
 
@@ -138,7 +140,14 @@ pub fn decode(bytes: &[u8]) -> Option<Vec<Part>> {
 /// threshold. The definition is put into code sentence by sentence, apart
 /// from [`check`](crate::check()), so that the two can be compared.
 pub fn is_true(runs: &[&[u32]], threshold: u32, parts: &[Part]) -> bool {
-    covers_all(parts) && parts.iter().all(|part| part_is_true(runs, threshold, part))
+    is_true_chosen(runs, all_runs(runs.len()), threshold, parts)
+}
+
+/// The same for those of the runs that `chosen` names: of these alone the
+/// parts speak, and among these alone the threshold counts.
+pub fn is_true_chosen(runs: &[&[u32]], chosen: u64, threshold: u32, parts: &[Part]) -> bool {
+    let part_is_true = |part| part_is_true(runs, chosen, threshold, part);
+    covers_all(parts) && parts.iter().all(part_is_true)
 }
 
 /// Whether the parts cover 0 to 4294967295 in rising order with no hole and
@@ -155,12 +164,13 @@ fn covers_all(parts: &[Part]) -> bool {
             .all(|pair| pair[0].last().checked_add(1) == Some(pair[1].first()))
 }
 
-fn part_is_true(runs: &[&[u32]], threshold: u32, part: &Part) -> bool {
-    let named: Vec<usize> = (0..64).filter(|i| part.mask() >> i & 1 == 1).collect();
-    if named.iter().any(|&i| i >= runs.len()) {
+fn part_is_true(runs: &[&[u32]], chosen: u64, threshold: u32, part: &Part) -> bool {
+    let among: Vec<usize> = named_runs(chosen).filter(|&i| i < runs.len()).collect();
+    let named: Vec<usize> = named_runs(part.mask()).collect();
+    if named.iter().any(|i| !among.contains(i)) {
         return false;
     }
-    let (k, t, names) = (runs.len() as i64, i64::from(threshold), named.len() as i64);
+    let (k, t, names) = (among.len() as i64, i64::from(threshold), named.len() as i64);
     match *part {
         Part::Answer { value, .. } => names >= t && named.iter().all(|&i| runs[i].contains(&value)),
         Part::Gap { first, last, .. } => {

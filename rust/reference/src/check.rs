@@ -1,7 +1,7 @@
 //! The checker of certificates.
 
 use crate::certificate::{read_field, Part};
-use crate::first_checks::{first_checks, split_runs, Refusal};
+use crate::first_checks::{first_checks_chosen, split_runs, Refusal};
 use crate::mask::{all_runs, named_runs};
 
 /// What [`check()`] returns.
@@ -14,13 +14,13 @@ pub enum Verdict {
         /// How many parts it has.
         parts: u64,
     },
-    /// The runs or the threshold fail the first checks, or the certificate
-    /// is not true.
+    /// The runs, the mask or the threshold fail the first checks, or the
+    /// certificate is not true.
     Invalid {
-        /// The number of the refusal: 1 to 4 or 8 to 11.
+        /// The number of the refusal: 1 to 4, 8 to 11 or 13.
         number: u8,
-        /// The place that the table gives for it: from 8 on an offset in the
-        /// certificate.
+        /// The place that the table gives for it: for 8 to 11 an offset in
+        /// the certificate.
         place: u64,
     },
 }
@@ -29,7 +29,19 @@ pub enum Verdict {
 /// the certificate is true for them, else the first refusal. Each field is
 /// settled fully before the next.
 pub fn check(numbers: &[u32], ends: &[u32], threshold: u32, certificate: &[u8]) -> Verdict {
-    match check_fields(numbers, ends, threshold, certificate) {
+    check_chosen(numbers, ends, all_runs(ends.len()), threshold, certificate)
+}
+
+/// The same for the runs that `mask` chooses, with 13 among the first checks.
+/// A part that names another run is refused as 10.
+pub fn check_chosen(
+    numbers: &[u32],
+    ends: &[u32],
+    mask: u64,
+    threshold: u32,
+    certificate: &[u8],
+) -> Verdict {
+    match check_fields(numbers, ends, mask, threshold, certificate) {
         Ok((answers, parts)) => Verdict::Valid { answers, parts },
         Err(Refusal { number, place }) => Verdict::Invalid { number, place },
     }
@@ -38,11 +50,11 @@ pub fn check(numbers: &[u32], ends: &[u32], threshold: u32, certificate: &[u8]) 
 fn check_fields(
     numbers: &[u32],
     ends: &[u32],
+    chosen: u64,
     threshold: u32,
     certificate: &[u8],
 ) -> Result<(u64, u64), Refusal> {
-    first_checks(numbers, ends, threshold)?;
-    let k = ends.len();
+    first_checks_chosen(numbers, ends, chosen, threshold)?;
     // What is left of each run. Parts rise, so numbers below one are done with.
     let mut unseen = split_runs(numbers, ends);
     let (mut answers, mut parts) = (0, 0);
@@ -58,7 +70,7 @@ fn check_fields(
         if u64::from(part.first()) != next || part.last() < part.first() {
             return Err(Refusal::new(9, offset));
         }
-        if !names_enough(&part, k, threshold as usize) {
+        if !names_enough(&part, chosen, threshold) {
             return Err(Refusal::new(10, offset));
         }
         if named_runs(part.mask()).any(|i| contradicts(&mut unseen[i], &part)) {
@@ -75,14 +87,13 @@ fn check_fields(
     Ok((answers, parts))
 }
 
-/// Whether the mask names only runs below `k`, and as many as the part needs.
-fn names_enough(part: &Part, k: usize, threshold: usize) -> bool {
-    let mask = part.mask();
+/// Whether the part names only chosen runs, and as many as it needs.
+fn names_enough(part: &Part, chosen: u64, threshold: u32) -> bool {
     let needed = match part {
         Part::Answer { .. } => threshold,
-        Part::Gap { .. } => k - threshold + 1,
+        Part::Gap { .. } => chosen.count_ones() - threshold + 1,
     };
-    mask & !all_runs(k) == 0 && mask.count_ones() as usize >= needed
+    part.mask() & !chosen == 0 && part.mask().count_ones() >= needed
 }
 
 /// Whether a run named by the part contradicts it. Drops the numbers of the

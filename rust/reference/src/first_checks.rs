@@ -1,4 +1,6 @@
-//! The checks that a query and a check of a certificate share.
+//! The checks that come before a walk and before a certificate's fields.
+
+use crate::mask::all_runs;
 
 /// The largest number of runs: one for each bit of a mask.
 pub const MAX_RUNS: usize = 64;
@@ -27,20 +29,70 @@ impl Refusal {
 /// Returns `Ok` if the runs and the threshold pass the first checks, else the
 /// first refusal, of number 1 to 4, in the order of the table.
 pub fn first_checks(numbers: &[u32], ends: &[u32], threshold: u32) -> Result<(), Refusal> {
-    let k = ends.len();
-    if k == 0 || k > MAX_RUNS {
-        return Err(Refusal::new(1, k));
+    first_checks_chosen(numbers, ends, all_runs(ends.len()), threshold)
+}
+
+/// The same for the runs that `mask` chooses, with 13 between 1 and 2. The
+/// other runs are looked at too, but for the threshold.
+pub fn first_checks_chosen(
+    numbers: &[u32],
+    ends: &[u32],
+    mask: u64,
+    threshold: u32,
+) -> Result<(), Refusal> {
+    check_run_count(ends)?;
+    if !is_choice(mask, ends.len()) {
+        return Err(Refusal::new(13, 0));
     }
-    if threshold == 0 || threshold as usize > k {
+    if !is_threshold(threshold, mask) {
         return Err(Refusal::new(2, threshold as usize));
     }
+    check_ends(ends, numbers.len())?;
+    check_rising(numbers, ends)
+}
+
+/// Refusal 1.
+pub(crate) fn check_run_count(ends: &[u32]) -> Result<(), Refusal> {
+    match ends.len() {
+        1..=MAX_RUNS => Ok(()),
+        k => Err(Refusal::new(1, k)),
+    }
+}
+
+/// Whether the mask names a run, and only runs below `k`.
+pub(crate) fn is_choice(mask: u64, k: usize) -> bool {
+    mask != 0 && mask & !all_runs(k) == 0
+}
+
+/// Whether the threshold is above 0 and not above the number of runs that the
+/// mask names.
+pub(crate) fn is_threshold(threshold: u32, mask: u64) -> bool {
+    (1..=mask.count_ones()).contains(&threshold)
+}
+
+/// Refusal 3, for ends of so many numbers.
+pub(crate) fn check_ends(ends: &[u32], numbers: usize) -> Result<(), Refusal> {
+    check_order(ends)?;
+    let fits = last_end(ends) == numbers && numbers <= MAX_NUMBERS;
+    fits.then_some(()).ok_or(Refusal::new(3, ends.len()))
+}
+
+/// Refusal 3 as far as an end falls.
+pub(crate) fn check_order(ends: &[u32]) -> Result<(), Refusal> {
     // The first end has none before it and cannot fall.
-    if let Some(i) = ends.windows(2).position(|pair| pair[1] < pair[0]) {
-        return Err(Refusal::new(3, i + 1));
+    match ends.windows(2).position(|pair| pair[1] < pair[0]) {
+        Some(i) => Err(Refusal::new(3, i + 1)),
+        None => Ok(()),
     }
-    if ends[k - 1] as usize != numbers.len() || numbers.len() > MAX_NUMBERS {
-        return Err(Refusal::new(3, k));
-    }
+}
+
+/// The last end; 0 if there is none.
+pub(crate) fn last_end(ends: &[u32]) -> usize {
+    ends.last().map_or(0, |&end| end as usize)
+}
+
+/// Refusal 4, for ends that fit the numbers.
+pub(crate) fn check_rising(numbers: &[u32], ends: &[u32]) -> Result<(), Refusal> {
     let mut start = 0;
     for &end in ends {
         let end = end as usize;

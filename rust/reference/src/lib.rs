@@ -5,15 +5,20 @@
 //! implementations. Every function outside [`testing`] is total: it never
 //! panics, whatever the input.
 //!
-//! * [`query()`] walks the runs and writes answers and a certificate.
+//! * [`query()`] walks the runs and writes answers and a certificate,
+//!   [`query_many()`] those of many questions, each about some of the runs.
 //! * [`check()`] decides whether a certificate is true, and names the first
 //!   wrong field.
 //! * [`between()`] finds the numbers of one list between two numbers.
 //! * [`parse()`] reads the input text of the program `hits`, and [`hits()`] gives
 //!   what it prints.
-//! * [`trace()`], [`is_true`], [`fewest_parts()`] and [`probe_bound`] serve tests:
-//!   they give the whole walk and the definitions it is compared with.
+//! * [`probe_bound`] gives an allowance that is enough.
+//! * [`trace()`], [`is_true`] and [`fewest_parts()`] serve tests: they give the
+//!   whole walk and the definitions it is compared with.
 //! * [`testing`] is what the tests of this crate and the comparison share.
+//!
+//! A function whose name ends in `chosen` is about those of the runs that a mask
+//! names; the one without is the case in which all are chosen.
 
 #![forbid(unsafe_code)]
 #![warn(missing_docs)]
@@ -26,20 +31,26 @@ pub mod fewest_parts;
 pub mod first_checks;
 mod heads;
 pub mod hits;
-mod mask;
+pub mod many;
+pub mod mask;
 pub mod query;
 pub mod testing;
 pub mod text;
 pub mod trace;
 mod walk;
+mod writer;
 
 pub use between::between;
-pub use bounds::{digits, probe_bound};
-pub use certificate::{decode, encode, is_true, Part};
-pub use check::{check, Verdict};
+pub use bounds::{digits, probe_bound, probe_bound_chosen};
+pub use certificate::{decode, encode, is_true, is_true_chosen, Part};
+pub use check::{check, check_chosen, Verdict};
 pub use fewest_parts::fewest_parts;
-pub use first_checks::{first_checks, split_runs, Refusal, MAX_NUMBERS, MAX_RUNS};
+pub use first_checks::{
+    first_checks, first_checks_chosen, split_runs, Refusal, MAX_NUMBERS, MAX_RUNS,
+};
 pub use hits::hits;
+pub use many::{query_many, ManyOutcome};
+pub use mask::{all_runs, named_runs};
 pub use query::{query, Outcome};
 pub use text::{parse, Question};
-pub use trace::{trace, Trace};
+pub use trace::{trace, trace_chosen, Trace};

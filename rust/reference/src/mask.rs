@@ -7,14 +7,16 @@ pub(crate) fn bit(i: usize) -> u64 {
     1 << i
 }
 
-/// Returns the mask of all `k` runs, for `k` from 1 to 64. With 64 runs every
-/// bit names one.
-pub(crate) fn all_runs(k: usize) -> u64 {
-    u64::MAX >> (MAX_RUNS - k)
+/// Returns the mask of all `k` runs. With 64 runs, or more, every bit names
+/// one.
+pub fn all_runs(k: usize) -> u64 {
+    let beyond = MAX_RUNS.saturating_sub(k) as u32;
+    // With no run at all every bit would be shifted out, which `>>` does not do.
+    u64::MAX.checked_shr(beyond).unwrap_or(0)
 }
 
 /// Returns the runs that a mask names, in rising order.
-pub(crate) fn named_runs(mut mask: u64) -> impl Iterator<Item = usize> {
+pub fn named_runs(mut mask: u64) -> impl Iterator<Item = usize> {
     std::iter::from_fn(move || {
         if mask == 0 {
             return None;

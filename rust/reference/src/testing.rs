@@ -1,9 +1,17 @@
 //! What the tests of this crate and the comparison share: short forms, rows
 //! from runs, all small inputs, random numbers, and the specification's
 //! instances: queries as a list of runs, threshold, allowance, expected parts
-//! and outcome, checks as one of certificates and verdicts.
+//! and outcome, checks as one of certificates and verdicts, and those about
+//! some of the runs in lists of their own.
 
 use crate::{encode, Outcome, Part, Verdict};
+
+mod many;
+
+pub use many::{
+    bound_instances, choose, chosen_instances, many_instances, many_row, renumber, ManyInstance,
+    FIRST_TWO_PARTS, LAST_TWO_PARTS, OUTER_TWO_PARTS,
+};
 
 /// The largest bin.
 pub const M: u32 = u32::MAX;
@@ -61,6 +69,15 @@ pub const fn refused(number: u8, place: u64, answers: u64, bytes: u64, probes: u
         bytes,
         probes,
     }
+}
+
+/// The values of the answers among some parts.
+pub fn answers_of(parts: &[Part]) -> Vec<u32> {
+    let value = |part: &Part| match part {
+        Part::Answer { value, .. } => Some(*value),
+        Part::Gap { .. } => None,
+    };
+    parts.iter().filter_map(value).collect()
 }
 
 /// The row of numbers and the row of ends of some runs.
@@ -171,11 +188,7 @@ impl Instance {
 
     /// The answers written.
     pub fn answers(&self) -> Vec<u32> {
-        let value = |part: &Part| match part {
-            Part::Answer { value, .. } => Some(*value),
-            Part::Gap { .. } => None,
-        };
-        self.parts.iter().filter_map(value).collect()
+        answers_of(&self.parts)
     }
 }
 

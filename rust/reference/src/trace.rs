@@ -1,7 +1,8 @@
 //! The whole walk, with nothing that runs out.
 
 use crate::certificate::Part;
-use crate::first_checks::{first_checks, split_runs, Refusal};
+use crate::first_checks::{first_checks_chosen, split_runs, Refusal};
+use crate::mask::all_runs;
 use crate::walk::{walk, Recorder};
 
 /// What [`trace()`] returns.
@@ -9,21 +10,30 @@ use crate::walk::{walk, Recorder};
 pub struct Trace {
     /// The parts of the whole certificate.
     pub parts: Vec<Part>,
-    /// The probes made in each run.
+    /// The probes made in each run, chosen or not.
     pub probes: Vec<u64>,
 }
 
 /// Returns the parts of the whole walk and its probes in each run, or the
 /// first refusal if the runs or the threshold fail the first checks.
 pub fn trace(numbers: &[u32], ends: &[u32], threshold: u32) -> Result<Trace, Refusal> {
-    first_checks(numbers, ends, threshold)?;
-    let k = ends.len();
+    trace_chosen(numbers, ends, all_runs(ends.len()), threshold)
+}
+
+/// The same of the runs that `mask` chooses, with 13 among the first checks.
+pub fn trace_chosen(
+    numbers: &[u32],
+    ends: &[u32],
+    mask: u64,
+    threshold: u32,
+) -> Result<Trace, Refusal> {
+    first_checks_chosen(numbers, ends, mask, threshold)?;
     let runs = split_runs(numbers, ends);
     let mut trace = Trace {
         parts: Vec::new(),
-        probes: vec![0; k],
+        probes: vec![0; ends.len()],
     };
-    walk(&runs, k, threshold as usize, &mut trace).expect("a trace ends no walk");
+    walk(&runs, mask, threshold as usize, &mut trace).expect("a trace ends no walk");
     Ok(trace)
 }
 

@@ -3,7 +3,7 @@
 
 use crate::first_checks::MAX_RUNS;
 use crate::heads::Heads;
-use crate::mask::{all_runs, bit, named_runs};
+use crate::mask::{bit, named_runs};
 
 /// Receives what a walk does, in order. An error is the number of the refusal
 /// that ends the walk there.
@@ -16,28 +16,29 @@ pub(crate) trait Recorder {
     fn gap(&mut self, first: u32, last: u32, mask: u64) -> Result<(), u8>;
 }
 
-/// Walks the first `k` of the runs, which pass the first checks with
-/// `threshold`. Returns the number of the refusal if the recorder ends it.
+/// Walks the runs that `chosen` names and no others, each under its number
+/// among all runs. They pass the first checks with `threshold`. Returns the
+/// number of the refusal if the recorder ends it.
 pub(crate) fn walk<R: Recorder>(
     runs: &[&[u32]; MAX_RUNS],
-    k: usize,
+    chosen: u64,
     threshold: usize,
     recorder: &mut R,
 ) -> Result<(), u8> {
     let mut position = [0; MAX_RUNS];
-    let mut heads = Heads::new(&runs[..k]);
+    let mut heads = Heads::new(runs, chosen);
     let mut floor = 0;
     loop {
         // Steps 1 and 2.
         let Some(v) = heads.nth_smallest(threshold) else {
-            let without_head = all_runs(k) & !heads.runs();
+            let without_head = chosen & !heads.runs();
             return recorder.gap(floor, u32::MAX, without_head);
         };
         let (below, at) = heads.runs_below_and_at(v);
 
         // Step 3.
         if floor < v {
-            recorder.gap(floor, v - 1, all_runs(k) & !below)?;
+            recorder.gap(floor, v - 1, chosen & !below)?;
         }
 
         // Step 4.

@@ -48,7 +48,7 @@ fn whole_walk(runs: &[Vec<u32>], threshold: u32, size: Size) {
         &numbers,
         &ends,
         threshold,
-        probe_bound(&ends, fewest as u64) as u32,
+        probe_bound(&ends, fewest as u32).unwrap() as u32,
         &mut answers,
         &mut certificate,
     );

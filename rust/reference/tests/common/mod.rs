@@ -4,7 +4,7 @@
 // Each test file is a program of its own and uses only some of this.
 #![allow(dead_code)]
 
-use reference::testing::{accepted, gap, hit, lay_out, refused, slices, Random, M};
+use reference::testing::{accepted, answers_of, gap, hit, lay_out, refused, slices, Random, M};
 use reference::{encode, query, Outcome, Part};
 use std::collections::BTreeMap;
 
@@ -190,42 +190,62 @@ impl PlainWalk {
         answer_room: usize,
         byte_room: usize,
     ) -> (Outcome, Vec<u32>, Vec<u8>) {
-        let mut answers = Vec::new();
-        let mut parts = Vec::new();
-        let mut probes: u64 = 0;
-        let mut refusal = None;
-        for event in &self.events {
-            match *event {
-                Event::Probe(_) if probes == u64::from(allowance) => refusal = Some(7),
-                Event::Probe(_) => probes += 1,
-                Event::Write(part) => {
-                    let bytes = encode(&parts).len() + encode(&[part]).len();
-                    let value = match part {
-                        Part::Answer { value, .. } => Some(value),
-                        Part::Gap { .. } => None,
-                    };
-                    if value.is_some() && answers.len() == answer_room {
-                        refusal = Some(5);
-                    } else if bytes > byte_room {
-                        refusal = Some(6);
-                    } else {
-                        answers.extend(value);
-                        parts.push(part);
-                    }
-                }
-            }
-            if refusal.is_some() {
-                break;
-            }
-        }
-        let certificate = encode(&parts);
-        let counts = (answers.len() as u64, certificate.len() as u64);
-        let written = parts.len() as u64;
+        let mut limited = Limited::new(allowance, answer_room, byte_room);
+        let refusal = limited.go_on(&self.events);
+        let certificate = encode(&limited.parts);
+        let counts = (limited.answers.len() as u64, certificate.len() as u64);
+        let (written, probes) = (limited.parts.len() as u64, limited.probes);
         let outcome = match refusal {
             None => accepted(counts.0, written, counts.1, probes),
             Some(number) => refused(number, written, counts.0, counts.1, probes),
         };
-        (outcome, answers, certificate)
+        (outcome, limited.answers, certificate)
+    }
+}
+
+/// What walks do one after another up to the first check that fails.
+pub struct Limited {
+    allowance: u32,
+    answer_room: usize,
+    byte_room: usize,
+    pub answers: Vec<u32>,
+    pub parts: Vec<Part>,
+    pub probes: u64,
+}
+
+impl Limited {
+    pub fn new(allowance: u32, answer_room: usize, byte_room: usize) -> Self {
+        Limited {
+            allowance,
+            answer_room,
+            byte_room,
+            answers: Vec::new(),
+            parts: Vec::new(),
+            probes: 0,
+        }
+    }
+
+    /// Goes on with a walk. Returns the refusal that ends it, if one does.
+    pub fn go_on(&mut self, events: &[Event]) -> Option<u8> {
+        for event in events {
+            match *event {
+                Event::Probe(_) if self.probes == u64::from(self.allowance) => return Some(7),
+                Event::Probe(_) => self.probes += 1,
+                Event::Write(part) => {
+                    let bytes = encode(&self.parts).len() + encode(&[part]).len();
+                    let value = answers_of(&[part]);
+                    if !value.is_empty() && self.answers.len() == self.answer_room {
+                        return Some(5);
+                    }
+                    if bytes > self.byte_room {
+                        return Some(6);
+                    }
+                    self.answers.extend(value);
+                    self.parts.push(part);
+                }
+            }
+        }
+        None
     }
 }
 

@@ -1,0 +1,219 @@
+//! The checker with a mask: true certificates of the chosen runs of every form,
+//! damaged ones, and masks that choose wrong.
+
+use comparison::broken::{any_threshold, break_rows};
+use comparison::certificates::{damage_bytes, Task};
+use comparison::many::any_choice;
+use comparison::question::Question;
+use comparison::seeds;
+use comparison::shapes::any_runs;
+use comparison::verdicts::{walks_own, Seen};
+use reference::testing::{
+    chosen_instances, gap, hit, lay_out, slices, Random, FIRST_TWO_PARTS, M, THREE_RUNS,
+};
+use reference::{all_runs, encode, trace_chosen};
+
+fn three_runs(rows: &(Vec<u32>, Vec<u32>), threshold: u32) -> Question<'_> {
+    Question {
+        numbers: &rows.0,
+        ends: &rows.1,
+        threshold,
+    }
+}
+
+#[test]
+fn every_instance() {
+    let rows = lay_out(&THREE_RUNS);
+    let mut seen = Seen::default();
+    for (mask, threshold, bytes, expected) in chosen_instances() {
+        let verdict = reference::check_chosen(&rows.0, &rows.1, mask, threshold, &bytes);
+        assert_eq!(verdict, expected);
+        seen.compare_chosen(0, three_runs(&rows, threshold), mask, &bytes);
+    }
+    seen.met(&[0, 2, 9, 10, 11, 13], 1);
+}
+
+/// For random runs and choices: the walk's own certificate, other true ones, and
+/// each of them damaged.
+fn compare_random(group: u64, cases: u64, runs: [usize; 2], length: usize) -> Seen {
+    let mut seen = Seen::default();
+    for seed in seeds(group, cases) {
+        let mut random = Random(seed);
+        let k = random.from_to(runs[0], runs[1]);
+        let length = random.below(length + 1);
+        let runs = any_runs(&mut random, k, length);
+        let runs = slices(&runs);
+        let chosen = any_choice(&mut random, k);
+        let task = Task {
+            runs: &runs,
+            chosen,
+            threshold: random.from_to(1, chosen.count_ones() as usize) as u32,
+        };
+        let own = walks_own(task);
+        let mut rewritten = own.clone();
+        for _ in 0..random.from_to(1, 6) {
+            task.rewrite(&mut random, &mut rewritten);
+        }
+        let any = task.any_true(&mut random);
+        for parts in [own, rewritten, any] {
+            let bytes = encode(&parts);
+            assert_eq!(seen.compare_with_truth(seed, task, &bytes), 0);
+            for _ in 0..2 {
+                let mut parts = parts.clone();
+                for _ in 0..random.pick(&[1, 1, 2]) {
+                    task.damage_parts(&mut random, &mut parts);
+                }
+                seen.compare_with_truth(seed, task, &encode(&parts));
+            }
+            let mut damaged = bytes;
+            damage_bytes(&mut random, &mut damaged);
+            seen.compare_with_truth(seed, task, &damaged);
+        }
+    }
+    seen
+}
+
+#[test]
+fn few_short_runs() {
+    let seen = compare_random(101, 8_000, [2, 6], 6);
+    assert!(seen.all() > 90_000);
+    seen.met(&[0, 8, 9, 10, 11], 2_000);
+}
+
+#[test]
+fn more_runs() {
+    let seen = compare_random(102, 2_000, [5, 20], 10);
+    seen.met(&[0, 8, 9, 10, 11], 300);
+}
+
+#[test]
+fn most_runs() {
+    let seen = compare_random(103, 250, [60, 64], 12);
+    seen.met(&[0, 8, 9, 10, 11], 50);
+}
+
+#[test]
+fn long_runs() {
+    let seen = compare_random(104, 40, [1, 5], 300);
+    seen.met(&[0, 8, 9, 10, 11], 5);
+}
+
+/// With all runs chosen the verdict is that without a mask.
+#[test]
+fn all_runs_chosen() {
+    let mut seen = Seen::default();
+    for seed in seeds(105, 5_000) {
+        let mut random = Random(seed);
+        let k = random.pick(&[1, 2, 3, 5, 64]);
+        let runs = any_runs(&mut random, k, 6);
+        let runs = slices(&runs);
+        let task = Task::of_all(&runs, random.from_to(1, k) as u32);
+        let (numbers, ends) = lay_out(&runs);
+        let question = Question {
+            numbers: &numbers,
+            ends: &ends,
+            threshold: task.threshold,
+        };
+        let mut parts = walks_own(task);
+        for _ in 0..random.below(3) {
+            task.damage_parts(&mut random, &mut parts);
+        }
+        let bytes = encode(&parts);
+        let with_mask = seen.compare_chosen(seed, question, task.chosen, &bytes);
+        assert_eq!(with_mask, seen.compare(seed, question, &bytes));
+        let check = quorum::check(&numbers, &ends, task.threshold, &bytes);
+        let chosen = quorum::check_chosen(&numbers, &ends, task.chosen, task.threshold, &bytes);
+        assert_eq!(check, chosen, "seed {seed}");
+    }
+    seen.met(&[0, 9, 10, 11], 500);
+}
+
+/// Rows, masks and thresholds that the first checks refuse, in any combination.
+#[test]
+fn first_checks() {
+    let mut seen = Seen::default();
+    for seed in seeds(106, 40_000) {
+        let mut random = Random(seed);
+        let k = random.pick(&[0, 1, 2, 3, 4, 8, 63, 64, 65, 66]);
+        let length = random.below(8);
+        let (mut numbers, mut ends) = lay_out(&any_runs(&mut random, k, length));
+        let mask = match random.below(8) {
+            0 => 0,
+            1 => random.bits(),
+            2 => 1 << random.from_to(k.min(63), 63),
+            _ => any_choice(&mut random, k.max(1)),
+        };
+        let threshold = any_threshold(&mut random, mask.count_ones() as usize);
+        let own = trace_chosen(&numbers, &ends, mask, threshold);
+        let own = own.map_or(Vec::new(), |walk| walk.parts);
+        // Now and then it is checked for other runs.
+        let mask = match random.one_in(6) {
+            true => any_choice(&mut random, k.max(1)),
+            false => mask,
+        };
+        for _ in 0..random.from_to(0, 2) {
+            break_rows(&mut random, &mut numbers, &mut ends);
+        }
+        let question = Question {
+            numbers: &numbers,
+            ends: &ends,
+            threshold,
+        };
+        seen.compare_chosen(seed, question, mask, &encode(&own));
+    }
+    seen.met(&[0, 1, 2, 3, 4, 9, 10, 11, 13], 50);
+}
+
+/// Every choice of three runs with every mask of a gap and of an answer.
+#[test]
+fn every_mask() {
+    let mut seen = Seen::default();
+    let runs: [&[u32]; 3] = [&[7], &[7, 8], &[8]];
+    for chosen in 1..=all_runs(3) {
+        for threshold in 1..=chosen.count_ones() {
+            let task = Task {
+                runs: &runs,
+                chosen,
+                threshold,
+            };
+            for mask in (0..16).chain([1 << 63, u64::MAX, 7 | 1 << 62]) {
+                for value in [6, 7, 8, 9] {
+                    let parts = [
+                        gap(0, value - 1, chosen),
+                        hit(value, mask),
+                        gap(value + 1, M, mask),
+                    ];
+                    for kept in 1..=3 {
+                        seen.compare_with_truth(0, task, &encode(&parts[..kept]));
+                    }
+                    let joined = [gap(0, value, mask), parts[2]];
+                    seen.compare_with_truth(0, task, &encode(&joined));
+                }
+            }
+        }
+    }
+    seen.met(&[9, 10, 11], 100);
+}
+
+/// The certificate of the first two of three runs with each byte set to each
+/// value.
+#[test]
+fn every_byte() {
+    let task = Task {
+        runs: &THREE_RUNS,
+        chosen: 3,
+        threshold: 2,
+    };
+    let whole = encode(&FIRST_TWO_PARTS);
+    assert_eq!(whole, encode(&walks_own(task)));
+    let mut seen = Seen::default();
+    for place in 0..whole.len() {
+        for value in 0..=255 {
+            let mut bytes = whole.clone();
+            bytes[place] = value;
+            seen.compare_with_truth(0, task, &bytes);
+        }
+        seen.compare_with_truth(0, task, &whole[..place]);
+    }
+    seen.met(&[0, 8, 9, 10, 11], 20);
+}
