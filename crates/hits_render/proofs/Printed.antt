@@ -1,27 +1,27 @@
 -- An accepted question prints the lines of the whole certificate: what its buffer holds in the bytes returned are the parts that the walk wrote.
 -- Assumes nothing.
-use Prim.Native.Nat.{ℕ, _≤_}
+use Prim.Native.Nat.{ℕ, _-_, _^_}
 use lib.ListN.{length, take}
 use lib.Seq.{take-length}
 use mathlib.Core.List.{List, [], _∷_, _++_, List·Memᴰ, List·Memᴰ·head, List·Memᴰ·tail}
-use mathlib.Core.Path.{_≡_, refl, ap, _∙_}
+use mathlib.Core.Path.{_≡_, refl, ap, _∙_, subst}
 use native.Mathlib.Omega.{arith}
-use Rattle.model.proofs.Checking.{in-range}
+use Rattle.model.proofs.Checking.{Narrow, in-range, chosen-narrow}
 use Rattle.model.proofs.Demands.{demand2}
 use Rattle.model.proofs.Encoding.{read-back}
 use Rattle.model.proofs.Fewest.{covers-rest}
-use Rattle.model.proofs.FirstChecks.{first-passed, runs-length}
+use Rattle.model.proofs.FirstChecks.{first-passed, every-run}
 use Rattle.model.specs.Certificate.{Part, encode, Covers, TruePart}
 use Rattle.model.specs.Compared.{wholeCertificate}
-use Rattle.model.specs.Demands.{Fits, partsIn, bytesIn, refusedBy, Certified}
+use Rattle.model.specs.Demands.{Fits, answersIn, partsIn, bytesIn, refusedBy, Certified}
 use Rattle.model.specs.Refusals.{Check, passed, refusal, firstChecks, accepted, refused, query}
-use Rattle.model.specs.Runs.{Run, pastBin, mostRuns, runs}
+use Rattle.model.specs.Runs.{Run, pastBin, runs}
 use Rattle.hits_parts.specs.Parts.{partLines, partsHeld}
 use Rattle.hits_render.specs.Text.{doneLine, rendered}
 use Rattle.hits_parts.proofs.Parts.{held-none, held-read}
 
 -- the bytes of parts that cover the bins and are true hold those parts
-held-encode : {rs : List Run} {t b : ℕ} (ps : List Part) → length rs ≤ mostRuns → Covers b ps → ((p : Part) → List·Memᴰ p ps → TruePart rs t p)
+held-encode : {rs : List Run} {t b : ℕ} (ps : List Part) → Narrow rs → Covers b ps → ((p : Part) → List·Memᴰ p ps → TruePart rs t p)
     → partsHeld (encode ps) ≡ ps
 unfolding encode
 held-encode [] k c h = held-none
@@ -30,14 +30,13 @@ held-encode (p ∷ ps) k c h =
     ∙ ap (λ l. p ∷ l) (held-encode ps k (covers-rest c) (λ q m. h q (List·Memᴰ·tail m)))
 
 -- what a certified outcome prints
-certified-prints : (rs : List Run) (t : ℕ) (answers certificate : List ℕ) (a n b q : ℕ) → length rs ≤ mostRuns
-    → Certified rs t (accepted a n b q) answers certificate
+certified-prints : (rs : List Run) (t : ℕ) (answers certificate : List ℕ) (a n b q : ℕ) → Narrow rs → Certified rs t 0 n answers (take b certificate)
     → rendered (accepted a n b q) certificate ≡ partLines (wholeCertificate t rs) ++ doneLine a n q
-unfolding rendered bytesIn partsIn refusedBy
+unfolding rendered bytesIn
 certified-prints rs t answers certificate a n b q k c =
     let e = c .at-the-end refl in
     let whole = wholeCertificate t rs in
-    let i : take b certificate ≡ encode whole = c .parts ∙ ap encode (ap (λ m. take m whole) e ∙ take-length whole) in
+    let i : take b certificate ≡ encode whole = c .written ∙ ap encode (ap (λ m. take m whole) e ∙ take-length whole) in
     let j : partsHeld (take b certificate) ≡ whole = ap partsHeld i ∙ held-encode whole k (c .whole-true .covering) (c .whole-true .each) in
     ap (λ ps. partLines ps ++ doneLine a n q) j
 
@@ -46,17 +45,15 @@ pub accepted-prints : (numbers ends : List ℕ) (t allowance : ℕ) (answers cer
     → query numbers ends t allowance answers certificate .outcome ≡ accepted a n b q
     → rendered (accepted a n b q) (query numbers ends t allowance answers certificate .certificate)
     ≡ partLines (wholeCertificate t (runs numbers ends)) ++ doneLine a n q
-unfolding runs query
+unfolding query refusedBy partsIn answersIn bytesIn
 accepted-prints numbers ends t allowance answers certificate f a n b q o = go (firstChecks numbers ends t) refl
   where
     go : (c : Check) → firstChecks numbers ends t ≡ c
         → rendered (accepted a n b q) (query numbers ends t allowance answers certificate .certificate)
         ≡ partLines (wholeCertificate t (runs numbers ends)) ++ doneLine a n q
     go passed e =
-        let g = first-passed numbers ends t e in
-        let l = runs-length 0 0 numbers ends in
-        let k = g .few-runs in
-        certified-prints (runs numbers ends) t _ _ a n b q (omega arith)
+        let k = chosen-narrow numbers ends (2 ^ length ends - 1) (first-passed numbers ends t e .few-runs) in
+        certified-prints (runs numbers ends) t _ _ a n b q (subst Narrow (every-run numbers ends) k)
         (rw o at (demand2 numbers ends t allowance answers certificate f .for-every e))
     go (refusal m p) e =
         let s : refused m p 0 0 0 ≡ accepted a n b q = rw (e, query) at o in

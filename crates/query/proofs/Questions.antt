@@ -1,26 +1,44 @@
 -- What a question returns, from its first checks or from how its walk ended. Assumes nothing.
-use Prim.Native.Nat.{ℕ}
+use Prim.Native.Nat.{ℕ, _-_, _^_}
+use lib.ListN.{length}
 use mathlib.Core.List.{List}
 use mathlib.Core.Path.{_≡_, sym, ap, _∙_, subst}
+use native.Mathlib.Omega.{arith}
+use Rattle.model.specs.Compared.{wholeWalk}
 use Rattle.model.specs.Demands.{Fits, Demand2, Demand3}
-use Rattle.model.specs.Refusals.{Outcome, refused, refusal, firstChecks, query}
-use Rattle.model.specs.Runs.{pastBin}
+use Rattle.model.specs.Refusals.{Outcome, refused, passed, refusal, firstChecks, query}
+use Rattle.model.specs.Runs.{pastBin, runs, chosen}
 use Rattle.model.proofs.Demands as demands
-use Rattle.walk_progress.specs.Progress.{outcomeAt, ended}
+use Rattle.model.proofs.FirstChecks.{every-run}
+use Rattle.walk_progress.specs.Progress.{noCounts, outcomeAt, ended, onward}
+use Rattle.walk_progress.proofs.Progress.{onward-start}
 use Rattle.walk_write.specs.Writes.{countsOf, endsWith}
-use Rattle.walk_whole.specs.Whole.{ComesTo}
+use Rattle.walk_whole.specs.Whole.{countsFrom, ComesTo}
 use Rattle.walk_rounds.specs.declared.End.{End}
 use Rattle.query.specs.Outcomes.{Returns}
 
-pub ends-so : (numbers ends : List ℕ) (t allowance : ℕ) (A B A′ B′ : List ℕ) (r : End) (o : Outcome)
-    → ComesTo (query numbers ends t allowance A B) allowance A′ B′ r → o ≡ outcomeAt (r .number) (countsOf allowance (r .at))
+-- a question over all runs, where nothing is written yet and the whole allowance is left
+asked : (numbers ends : List ℕ) (m t allowance : ℕ) (A B A′ B′ : List ℕ) (r : End) → firstChecks numbers ends t ≡ passed → m ≡ 2 ^ length ends - 1
+    → ComesTo numbers ends m t 0 0 allowance A B A′ B′ r → query numbers ends t allowance A B ≡ endsWith (r .number) allowance (r .at) A′ B′
+unfolding query noCounts countsFrom
+asked numbers ends m t allowance A B A′ B′ r e f h =
+    let z : 0 ≡ allowance - allowance = omega arith in
+    let all : runs numbers ends ≡ chosen m (runs numbers ends) = sym (ap (λ x. chosen x (runs numbers ends)) f ∙ every-run numbers ends) in
+    rw (e, query)
+    (onward-start t (runs numbers ends) allowance A B
+    ∙ ((λ i. onward allowance (record { answers = 0; parts = 0; bytes = 0; probes = z i }) A B (wholeWalk t (all i)))
+    ∙ h .as-asked allowance (omega arith)))
+
+pub ends-so : (numbers ends : List ℕ) (m t allowance : ℕ) (A B A′ B′ : List ℕ) (r : End) (o : Outcome) → firstChecks numbers ends t ≡ passed
+    → m ≡ 2 ^ length ends - 1 → ComesTo numbers ends m t 0 0 allowance A B A′ B′ r → o ≡ outcomeAt (r .number) (countsOf allowance (r .at))
     → Returns (query numbers ends t allowance A B) o A′ B′
 unfolding endsWith ended
-ends-so numbers ends t allowance A B A′ B′ r o h e =
+ends-so numbers ends m t allowance A B A′ B′ r o c f h e =
+    let q = asked numbers ends m t allowance A B A′ B′ r c f h in
     record {
-      outcome-is = e ∙ sym (ap (λ x. x .outcome) (h .as-asked));
-      answers-are = sym (ap (λ x. x .answers) (h .as-asked));
-      certificate-is = sym (ap (λ x. x .certificate) (h .as-asked));
+      outcome-is = e ∙ sym (ap (λ x. x .outcome) q);
+      answers-are = sym (ap (λ x. x .answers) q);
+      certificate-is = sym (ap (λ x. x .certificate) q);
     }
 
 pub refused-first : (numbers ends : List ℕ) (t allowance : ℕ) (A B : List ℕ) (n p : ℕ) → firstChecks numbers ends t ≡ refusal n p

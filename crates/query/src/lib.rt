@@ -50,7 +50,7 @@ fn outcome_of(end: End, allowance: u32) -> Outcome
     }
 }
 
-// A question that passes the first checks. Nothing is allocated: its positions and its keys are two rows with a place for each run, and two more such rows
+// A question that passes the first checks: the walk over all runs, with the whole allowance and empty buffers. Nothing is allocated: its positions and its keys are two rows with a place for each run, and two more such rows
 // are in use while the row of keys is made anew.
 fn answer(
     numbers: &[u32],
@@ -69,12 +69,15 @@ fn answer(
     let end = walk_whole::whole_walk(
         numbers,
         ends,
+        mask::all_runs(k),
         threshold,
-        allowance,
         &mut positions[0..k],
         &mut keys[0..k],
         answers,
         certificate,
+        0,
+        0,
+        allowance,
     );
     outcome_of(end, allowance)
 }

@@ -1,64 +1,72 @@
 -- The walk's first state stands, and where its rounds end the question does. Assumes nothing.
-use Prim.Native.Nat.{ℕ, _-_}
+use Prim.Native.Nat.{ℕ, _^_, _<_}
 use lib.ListN.{length}
-use mathlib.Core.List.{List, List·Memᴰ}
-use mathlib.Core.Path.{_≡_, sym, _∙_, subst}
+use mathlib.Core.List.{List, map, List·Memᴰ}
+use mathlib.Core.Path.{_≡_, sym, ap, _∙_, subst}
 use native.Mathlib.Omega.{arith}
 use Rattle.model.specs.Compared.{wholeWalk}
 use Rattle.model.specs.Demands.{Fits}
-use Rattle.model.specs.Refusals.{query}
-use Rattle.model.specs.Runs.{pastBin, runs}
+use Rattle.model.specs.Rows.{Rise}
+use Rattle.model.specs.Runs.{Run, pastBin, runs, chosen}
 use Rattle.model.specs.Walk.{walk}
 use Rattle.model.proofs.Exact.{first-least}
-use Rattle.model.proofs.FirstChecks.{first-passed, fit}
-use Rattle.walk_progress.specs.Progress.{noCounts, onward}
-use Rattle.walk_progress.proofs.Progress.{onward-start}
+use Rattle.model.proofs.FirstChecks.{chosen-passed, runs-rising}
+use Rattle.model.proofs.Walking.{map-mem}
+use Rattle.walk_progress.specs.Progress.{onward}
 use Rattle.walk_write.specs.Writes.{countsOf, goesOn, Fitted}
-use Rattle.walk_settle.specs.Turns.{Stands}
+use Rattle.walk_settle.specs.Turns.{Stands, Chooses}
 use Rattle.walk_rounds.specs.Ends.{Finishes}
-use Rattle.walk_whole.specs.Whole.{Begins, ComesTo}
+use Rattle.walk_whole.specs.Whole.{Begins, countsFrom, ComesTo}
 use Rattle.walk_rounds.specs.declared.End.{End}
 use Rattle.walk_write.specs.declared.State.{State}
+use Rattle.walk_state.proofs.Choosing.{standing-idle, standing-chosen, standing-rises}
 use Rattle.walk_state.proofs.Moving.{past-is}
-use Rattle.walk_state.specs.Moves.{BeginReady}
-use Rattle.walk_state.specs.State.{runsAt, Holds}
+use Rattle.walk_state.specs.Moves.{BeginReady, standing}
+use Rattle.walk_state.specs.State.{runsAt, chosenAt, Holds, Idle}
 
 -- the state before the first round
-abbrev pub firstState : ℕ → ℕ → State
-firstState start allowance = record { floor = 0; start = start; answers = 0; parts = 0; bytes = 0; left = allowance }
+abbrev pub firstState : ℕ → ℕ → ℕ → ℕ → State
+firstState start answered written left = record { floor = 0; start = start; answers = answered; parts = 0; bytes = written; left = left }
 
-module _ (numbers ends : List ℕ) (t : ℕ) (positions keys : List ℕ) (b : Begins numbers ends t positions keys) where
-  pub begin-ready : BeginReady numbers ends positions × (length keys ≡ length ends)
+module _ (numbers ends : List ℕ) (m t : ℕ) (positions keys A B : List ℕ) (answered written : ℕ) (b : Begins numbers ends m t positions keys A B answered written) where
+  pub begin-ready : BeginReady numbers ends positions × (m < 2 ^ length ends) × (length keys ≡ length ends)
   begin-ready =
-      let p = first-passed numbers ends t (b .checked) in
-      (record { few = p .few-runs; rise = p .ends-rise; last = p .ends-last; size = b .positions-size }, b .keys-size)
+      let p = chosen-passed numbers ends m t (b .checked) in
+      (record { few = p .few-runs; rise = p .lists .ends-rise; last = p .lists .ends-last; size = b .positions-size }, p .only, b .keys-size)
 
-  module _ (fits : Fits pastBin numbers) (A B positions′ keys′ : List ℕ) (start allowance : ℕ) (h : Holds numbers ends positions′ keys′ start (runs numbers ends)) where
-    pub stands-first : Stands numbers ends positions′ keys′ t (firstState start allowance) × Fitted A B (firstState start allowance)
+  module _ (fits : Fits pastBin numbers) (positions′ keys′ : List ℕ) (start left : ℕ) (h : Holds numbers ends positions′ keys′ start (map (standing m) (runs numbers ends))) where
+    rising : (r : Run) → List·Memᴰ r (runsAt 0 numbers positions′ ends) → Rise 0 (r .bins)
+    rising r i =
+        let p = chosen-passed numbers ends m t (b .checked) in
+        let q = map-mem (standing m) (runs numbers ends) r (subst (λ x. List·Memᴰ r x) (h .runs-are) i) in
+        subst (λ (x : Run). Rise 0 (x .bins)) (sym (q .2)) (standing-rises m 0 (q .0) (runs-rising numbers ends fits (p .lists) .each (q .0) (q .1)))
+
+    pub stands-first : Stands numbers ends positions′ keys′ t (firstState start answered written left) × Chooses m numbers ends positions′ t
+        × Fitted A B (firstState start answered written left)
     stands-first =
-        let p = first-passed numbers ends t (b .checked) in
-        let f = fit numbers ends t fits (b .checked) in (
+        let p = chosen-passed numbers ends m t (b .checked) in (
           record {
             few = p .few-runs;
             some = p .threshold;
-            enough = p .met;
             holds = subst (λ x. Holds numbers ends positions′ keys′ start x) (sym (h .runs-are)) h;
-            rising = λ r m. f .rising .each r (subst (λ x. List·Memᴰ r x) (h .runs-are) m);
+            rising = rising;
             bin = let e = past-is in omega arith;
           },
-          record { answered = omega arith; written = omega arith; parts = omega arith },
+          record { only = p .only; enough = p .met; idle = subst (λ x. Idle m x) (sym (h .runs-are)) (standing-idle m (runs numbers ends)) },
+          record { answered = b .answers-fit; written = b .bytes-fit; parts = omega arith },
         )
 
-    pub comes-first : (A′ B′ : List ℕ) (r : End) → Finishes (runsAt 0 numbers positions′ ends) t (firstState start allowance) A B A′ B′ r
-        → ComesTo (query numbers ends t allowance A B) allowance A′ B′ r
-    unfolding query goesOn countsOf noCounts wholeWalk
+    -- the chosen runs are at their first numbers
+    chosen-first : chosen m (runs numbers ends) ≡ chosenAt m numbers positions′ ends
+    chosen-first = sym (ap (chosen m) (h .runs-are) ∙ standing-chosen m (runs numbers ends))
+
+    pub comes-first : (A′ B′ : List ℕ) (r : End) → Finishes (chosenAt m numbers positions′ ends) t (firstState start answered written left) A B A′ B′ r
+        → ComesTo numbers ends m t answered written left A B A′ B′ r
+    unfolding goesOn countsOf countsFrom wholeWalk
     comes-first A′ B′ r f =
-        let z : 0 ≡ allowance - allowance = omega arith in
         record {
-          left = f .left;
-          as-asked =
-              rw (b .checked, query)
-              (onward-start t (runs numbers ends) allowance A B
-              ∙ ((λ i. onward allowance (record { answers = 0; parts = 0; bytes = 0; probes = z i }) A B (walk pastBin t (first-least i) (sym (h .runs-are) i)))
-              ∙ f .comes-to allowance pastBin (omega arith) (omega arith)));
+          left-then = f .left;
+          as-asked = λ allowance l.
+              (λ i. onward allowance (countsFrom allowance answered written left) A B (walk pastBin t (first-least i) (chosen-first i)))
+              ∙ f .comes-to allowance pastBin l (omega arith);
         }

@@ -1,19 +1,30 @@
--- The walk of a question from its beginning to its end. Definitions only.
-use Prim.Native.Nat.{ℕ, _≤_}
+-- The walk of a question over chosen runs from its beginning to its end, in buffers that hold what the questions before it wrote. Definitions only.
+use Prim.Native.Nat.{ℕ, _-_, _≤_}
 use mathlib.Core.List.{List}
 use mathlib.Core.Path.{_≡_}
 use lib.ListN.{length}
-use Rattle.model.specs.Refusals.{passed, firstChecks}
+use Rattle.model.specs.Compared.{wholeWalk}
+use Rattle.model.specs.Refusals.{passed, chosenChecks}
+use Rattle.model.specs.Runs.{runs, chosen}
+use Rattle.walk_progress.specs.Progress.{Counts, onward}
 use Rattle.walk_rounds.specs.declared.End.{End}
 use Rattle.walk_write.specs.Writes.{endsWith}
 
--- a question that passed the first checks, with rows for its walk
-pub record Begins (numbers ends : List ℕ) (t : ℕ) (positions keys : List ℕ) : Type 0 where
-  pub checked : firstChecks numbers ends t ≡ passed
+-- a question that passed the first checks, with rows for its walk, and buffers in which so many answers and bytes stand
+pub record Begins (numbers ends : List ℕ) (m t : ℕ) (positions keys answers certificate : List ℕ) (answered written : ℕ) : Type 0 where
+  pub checked : chosenChecks numbers ends m t ≡ passed
   pub positions-size : length positions ≡ length ends
   pub keys-size : length keys ≡ length ends
+  pub answers-fit : answered ≤ length answers
+  pub bytes-fit : written ≤ length certificate
 
--- the walk ended so, and with these buffers, as the question does
-pub record ComesTo (answered : Rattle.model.specs.Refusals.Answered) (allowance : ℕ) (answers′ certificate′ : List ℕ) (r : End) : Type 0 where
-  pub left : r .at .left ≤ allowance
-  pub as-asked : answered ≡ endsWith (r .number) allowance (r .at) answers′ certificate′
+-- the counts where it begins, so much of the allowance being left: its parts are counted from 0
+unfoldable pub countsFrom : ℕ → ℕ → ℕ → ℕ → Counts
+countsFrom allowance answered written left = record { answers = answered; parts = 0; bytes = written; probes = allowance - left }
+
+-- The walk ended so, and with these buffers, as the question does, of whatever allowance so much was left.
+pub record ComesTo (numbers ends : List ℕ) (m t answered written left : ℕ) (answers certificate answers′ certificate′ : List ℕ) (r : End) : Type 0 where
+  pub left-then : r .at .left ≤ left
+  pub as-asked : (allowance : ℕ) → left ≤ allowance
+      → onward allowance (countsFrom allowance answered written left) answers certificate (wholeWalk t (chosen m (runs numbers ends)))
+      ≡ endsWith (r .number) allowance (r .at) answers′ certificate′

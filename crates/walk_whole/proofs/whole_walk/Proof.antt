@@ -1,4 +1,4 @@
--- `whole_walk` puts every run at its first number and makes rounds to the end. Assumes nothing.
+-- `whole_walk` puts every run where the walk begins and makes rounds to the end. Assumes nothing.
 use native.Mathlib.Omega.{arith}
 use Rattle.model.specs.Demands.{Fits}
 use Rattle.model.specs.Runs.{pastBin}
@@ -13,18 +13,19 @@ begin-requires : tie.Need-begin-requires
 begin-requires c κs =
     let s = c .before .before .before .before .before .before .before .before in
     let a = s .args in
-    begin-ready (a .numbers .now) (a .ends .now) (a .threshold) (a .positions .now) (a .keys .now) (s .pre)
+    begin-ready (a .numbers .now) (a .ends .now) (a .chosen) (a .threshold) (a .positions .now) (a .keys .now) (a .answers .now) (a .certificate .now) (a .answered) (a .written) (s .pre)
 
 fits-bins : (c : tie.After-shared-slice-known) → Fits pastBin (c .before .args .numbers .now)
 fits-bins c = let e = past-is in fits pastBin (c .before .args .numbers .now) (λ i. omega (arith, c .shared-slice-known .given i))
 
 all-rounds-requires : tie.Need-all-rounds-requires
 all-rounds-requires c κs =
-    let s = c .before .before .before .before .before .before .before .before .before .before .before .before .before .before .before .before .before in
+    let g = c .before .before .before .before .before .before .before .before in
+    let k = g .before .before .before .before .before .before .before .before in
+    let s = k .before in
     let a = s .args in
-    let b = c .before .before .before .before .before .before .before .before .begin in
-    stands-first (a .numbers .now) (a .ends .now) (a .threshold) (a .positions .now) (a .keys .now) (s .pre) (fits-bins (c .before .before .before .before .before .before .before .before .before .before .before .before .before .before .before .before)) (a .answers .now)
-    (a .certificate .now) (b .last .1 .1 .0) (b .last .1 .1 .1 .0) (b .result) (a .allowance) (b .ensures)
+    stands-first (a .numbers .now) (a .ends .now) (a .chosen) (a .threshold) (a .positions .now) (a .keys .now) (a .answers .now) (a .certificate .now) (a .answered) (a .written) (s .pre)
+    (fits-bins k) (g .begin .last .1 .1 .1 .0) (g .begin .last .1 .1 .1 .1 .0) (g .begin .result) (a .left) (g .begin .ensures)
 
 same-length : tie.Need-same-length
 same-length c = search needs
@@ -40,13 +41,14 @@ same-length-4 c = search needs
 
 returns : tie.Need-returns
 returns c =
-    let s = c .before .before .before .before .before .before .before .before .before .before .before .before .before .before .before .before .before .before .before .before .before .before .before .before .before .before in
+    let u = c .before .before .before .before .before .before .before .before in
+    let g = u .before .before .before .before .before .before .before .before .before in
+    let k = g .before .before .before .before .before .before .before .before in
+    let s = k .before in
     let a = s .args in
-    let b = c .before .before .before .before .before .before .before .before .before .before .before .before .before .before .before .before .before .begin in
-    let u = c .before .before .before .before .before .before .before .before .all-rounds in
-    comes-first (a .numbers .now) (a .ends .now) (a .threshold) (a .positions .now) (a .keys .now) (s .pre) (fits-bins (c .before .before .before .before .before .before .before .before .before .before .before .before .before .before .before .before .before .before .before .before .before .before .before .before .before)) (a .answers .now)
-    (a .certificate .now) (b .last .1 .1 .0) (b .last .1 .1 .1 .0) (b .result) (a .allowance) (b .ensures)
-    (u .last .1 .1 .1 .1 .1 .0) (u .last .1 .1 .1 .1 .1 .1 .0) (u .result) (u .ensures)
+    comes-first (a .numbers .now) (a .ends .now) (a .chosen) (a .threshold) (a .positions .now) (a .keys .now) (a .answers .now) (a .certificate .now) (a .answered) (a .written) (s .pre)
+    (fits-bins k) (g .begin .last .1 .1 .1 .0) (g .begin .last .1 .1 .1 .1 .0) (g .begin .result) (a .left) (g .begin .ensures)
+    (u .all-rounds .last .1 .1 .1 .1 .1 .1 .0) (u .all-rounds .last .1 .1 .1 .1 .1 .1 .1 .0) (u .all-rounds .result) (u .all-rounds .ensures)
 
 pub whole-walk-spec : {M : Type 1} → statement M
 whole-walk-spec =
