@@ -19,7 +19,7 @@ pub fn only_run(run: u32) -> u64
 }
 
 // Whether the mask names `run`.
-fn names_run(mask: u64, run: u32) -> bool
+pub fn names_run(mask: u64, run: u32) -> bool
     requires { ⌜ run < maskBits ⌝ }
     ensures { λ r. ⌜ r ≡ eqb (bit mask run) 1 ⌝ }
 {
