@@ -1,11 +1,10 @@
--- The loop's invariant: what the checks, the last end and the sum come to from the start is what they come to from here. One turn keeps it, and each
--- way out gives the definition's answer. Assumes nothing.
+-- The checks before the ends' order, and the loop over the ends. The loop's invariant: what the checks, the last end and the sum come to from the start is
+-- what they come to from here. One turn keeps it, and each way out gives the definition's answer. Assumes nothing.
 use Prim.Native.Nat.{ℕ, _+_, _-_, _*_, _^_, _≤_, _<_}
-use borrow.Author.Tests.{lt-ltb, le-ltb, eq-eqb, ne-eqb}
-use lib.Dec.{ltb, eqb}
+use borrow.Author.Tests.{lt-ltb, le-ltb}
 use lib.ListN.{length, getD, drop, drop-of-length-le}
 use lib.Seq.{drop-cons}
-use mathlib.Core.Bool.{false, _||_}
+use mathlib.Core.Bool.{Bool}
 use mathlib.Core.List.{List}
 use mathlib.Core.Option.{none, some}
 use mathlib.Core.Path.{_≡_, refl, _∙_}
@@ -13,26 +12,35 @@ use native.Mathlib.Numerals.{add-one}
 use native.Mathlib.Omega.{arith}
 use Rattle.bound.specs.declared.Bound.the-variants.{Sum, Refused}
 use Rattle.model.specs.Compared.{boundOf}
-use Rattle.bound.specs.Bound.{sumFrom, endChecks, probeBound}
-use Rattle.model.specs.Refusals.{_then_, refuseIf, refuseAt, fallsFrom, lastEnd}
-use Rattle.model.specs.Runs.{mostNumbers, mostRuns}
+use Rattle.bound.specs.Bound.{sumFrom, orderChecks, boundBy}
+use Rattle.model.specs.Refusals.{Check, passed, refusal, _then_, refuseIf, refuseAt, fallsFrom, lastEnd}
+use Rattle.model.specs.Runs.{one, mostNumbers}
+
+-- a check that is refused, or passed, before the others
+pub refused-by : (a b : Check) (sum : ℕ) {n p : ℕ} → a ≡ refusal n p → Refused n p ≡ boundBy (a then b) sum
+unfolding boundBy _then_
+refused-by a b sum e = rw e
+
+pub passed-by : (a b : Check) (sum : ℕ) → a ≡ passed → boundBy b sum ≡ boundBy (a then b) sum
+unfolding _then_
+passed-by a b sum e = rw e
 
 -- The state at end i: `before` is the end before it and `sum` the sum over the runs passed.
-pub record Summed (ends : List ℕ) (d sum before i : ℕ) : Type 0 where
+pub record Summed (p : ℕ → Bool) (ends : List ℕ) (d sum before i : ℕ) : Type 0 where
   pub within : i ≤ length ends
   pub falls : fallsFrom 0 0 ends ≡ fallsFrom before i (drop i ends)
   pub last : lastEnd 0 ends ≡ lastEnd before (drop i ends)
-  pub rest : sumFrom d 0 ends ≡ sum + sumFrom d before (drop i ends)
+  pub rest : sumFrom p d 0 0 ends ≡ sum + sumFrom p d i before (drop i ends)
   pub small : sum ≤ i * 2 ^ 38
 
-pub start : (ends : List ℕ) (d : ℕ) → Summed ends d 0 0 0
-start ends d = record { within = omega arith; falls = refl; last = refl; rest = omega arith; small = omega arith }
+pub start : (p : ℕ → Bool) (ends : List ℕ) (d : ℕ) → Summed p ends d 0 0 0
+start p ends d = record { within = omega arith; falls = refl; last = refl; rest = omega arith; small = omega arith }
 
-pub next : (ends : List ℕ) (d sum before i : ℕ) → Summed ends d sum before i → i < length ends → before ≤ getD ends i 0
-    → boundOf d (getD ends i 0 - before) < 2 ^ 38
-    → Summed ends d (sum + boundOf d (getD ends i 0 - before)) (getD ends i 0) (i + 1)
+pub next : (p : ℕ → Bool) (ends : List ℕ) (d sum before i : ℕ) → Summed p ends d sum before i → i < length ends → before ≤ getD ends i 0
+    → one (p i) * boundOf d (getD ends i 0 - before) < 2 ^ 38
+    → Summed p ends d (sum + one (p i) * boundOf d (getD ends i 0 - before)) (getD ends i 0) (i + 1)
 unfolding fallsFrom lastEnd sumFrom
-next ends d sum before i s h l b =
+next p ends d sum before i s h l b =
     let c = drop-cons ends i 0 h in
     let r = rw c at (s .rest) in
     let m = s .small in
@@ -44,46 +52,32 @@ next ends d sum before i s h l b =
       small = omega arith;
     }
 
--- the checks of the number of ends
-pub none-refused : (ends : List ℕ) (d : ℕ) → length ends ≡ 0 → probeBound ends d ≡ Refused 1 (length ends)
-unfolding probeBound endChecks _then_ refuseIf
-none-refused ends d h = rw (eq-eqb (length ends) 0 h, probeBound)
+module _ (p : ℕ → Bool) (ends : List ℕ) (d sum before i : ℕ) (s : Summed p ends d sum before i) where
+  -- end i is below the one before
+  pub fall-refused : i < length ends → getD ends i 0 < before → boundBy (orderChecks ends) (sumFrom p d 0 0 ends) ≡ Refused 3 i
+  unfolding boundBy orderChecks _then_ refuseAt fallsFrom
+  fall-refused h b =
+      let f : fallsFrom 0 0 ends ≡ some i = s .falls ∙ rw (drop-cons ends i 0 h, lt-ltb (getD ends i 0) before b, fallsFrom) in
+      rw f
 
-pub many-refused : (ends : List ℕ) (d : ℕ) → mostRuns < length ends → probeBound ends d ≡ Refused 1 (length ends)
-unfolding probeBound endChecks _then_ refuseIf
-many-refused ends d h = rw (ne-eqb (length ends) 0 (λ e. omega arith), lt-ltb mostRuns (length ends) h, probeBound)
+  -- every end has been passed
+  module _ (done : length ends ≤ i) where
+    none-fell : fallsFrom 0 0 ends ≡ none
+    unfolding fallsFrom
+    none-fell = s .falls ∙ rw (drop-of-length-le ends done)
 
--- ends that are neither too few nor too many pass the first check
-pub number-passed : (ends : List ℕ) → 0 < length ends → length ends ≤ mostRuns → (eqb (length ends) 0 || ltb mostRuns (length ends)) ≡ false
-number-passed ends h l = rw (ne-eqb (length ends) 0 (λ e. omega arith), le-ltb mostRuns (length ends) l)
+    last-is : lastEnd 0 ends ≡ before
+    unfolding lastEnd
+    last-is = s .last ∙ rw (drop-of-length-le ends done)
 
--- end i is below the one before
-pub fall-refused : (ends : List ℕ) (d sum before i : ℕ) → Summed ends d sum before i → length ends ≤ mostRuns → i < length ends → getD ends i 0 < before
-    → probeBound ends d ≡ Refused 3 i
-unfolding probeBound endChecks _then_ refuseIf refuseAt fallsFrom
-fall-refused ends d sum before i s l h b =
-    let f : fallsFrom 0 0 ends ≡ some i = s .falls ∙ rw (drop-cons ends i 0 h, lt-ltb (getD ends i 0) before b, fallsFrom) in
-    rw (number-passed ends (omega arith) l, f, probeBound)
+    sum-is : sumFrom p d 0 0 ends ≡ sum
+    unfolding sumFrom
+    sum-is = let r = rw (drop-of-length-le ends done) at (s .rest) in omega arith
 
--- every end has been passed
-module _ (ends : List ℕ) (d sum before i : ℕ) (s : Summed ends d sum before i) (some-ends : 0 < length ends) (few : length ends ≤ mostRuns)
-    (done : length ends ≤ i) where
-  none-fell : fallsFrom 0 0 ends ≡ none
-  unfolding fallsFrom
-  none-fell = s .falls ∙ rw (drop-of-length-le ends done)
+    pub last-refused : mostNumbers < before → boundBy (orderChecks ends) (sumFrom p d 0 0 ends) ≡ Refused 3 (length ends)
+    unfolding boundBy orderChecks _then_ refuseIf refuseAt
+    last-refused h = rw (none-fell, last-is, lt-ltb mostNumbers before h)
 
-  last-is : lastEnd 0 ends ≡ before
-  unfolding lastEnd
-  last-is = s .last ∙ rw (drop-of-length-le ends done)
-
-  sum-is : sumFrom d 0 ends ≡ sum
-  unfolding sumFrom
-  sum-is = let r = rw (drop-of-length-le ends done) at (s .rest) in omega arith
-
-  pub last-refused : mostNumbers < before → probeBound ends d ≡ Refused 3 (length ends)
-  unfolding probeBound endChecks _then_ refuseIf refuseAt
-  last-refused h = rw (number-passed ends some-ends few, none-fell, last-is, lt-ltb mostNumbers before h, probeBound)
-
-  pub sum-returned : before ≤ mostNumbers → probeBound ends d ≡ Sum sum
-  unfolding probeBound endChecks _then_ refuseIf refuseAt
-  sum-returned h = rw (number-passed ends some-ends few, none-fell, last-is, le-ltb mostNumbers before h, sum-is, probeBound)
+    pub sum-returned : before ≤ mostNumbers → boundBy (orderChecks ends) (sumFrom p d 0 0 ends) ≡ Sum sum
+    unfolding boundBy orderChecks _then_ refuseIf refuseAt
+    sum-returned h = rw (none-fell, last-is, le-ltb mostNumbers before h, sum-is)

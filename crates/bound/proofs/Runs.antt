@@ -1,42 +1,104 @@
--- Where the first checks pass, each end is at most the number of the numbers, so a run is as long as its ends say: the sum from the ends is the sum of
--- the bounds over the runs, and the call returns it. Assumes nothing.
-use Prim.Native.Nat.{ℕ, suc, _-_, _≤_}
-use borrow.Author.Tests.{le-ltb}
+-- The mask of all runs names each of them. Where the first checks pass, each end is at most the number of the numbers, so a run is as long as its ends say: the
+-- sum from the ends is the sum of the bounds over the runs, over all or over those that a mask chooses, and the call returns it. Assumes nothing.
+use Prim.Native.Nat.{ℕ, suc, _+_, _-_, _*_, _/_, _%_, _^_, _≤_, _<_}
+use borrow.Author.Tests.{le-ltb, eq-eqb}
 use lib.ListN.{length, take, drop, length-take, length-drop}
+use lib.Pow.{high, ones-lt, ones-split}
+use mathlib.Core.Bool.{true, false}
 use mathlib.Core.List.{List, [], _∷_}
-use mathlib.Core.Option.{none, some}
-use mathlib.Core.Path.{_≡_, refl, ap}
+use mathlib.Core.Logic.{⊎-elim}
+use mathlib.Core.Option.{none}
+use mathlib.Core.Path.{_≡_, refl, sym, ap, _∙_}
 use native.Mathlib.Omega.{arith}
 use Rattle.bound.specs.declared.Bound.the-variants.{Sum}
 use Rattle.model.specs.Compared.{boundOf, boundIn, bound}
-use Rattle.bound.specs.Bound.{sumFrom, endChecks, probeBound}
-use Rattle.bound.proofs.Checks.{number-passed}
-use Rattle.model.proofs.FirstChecks.{first-passed, not-fallen, end-last}
-use Rattle.model.specs.Refusals.{passed, _then_, refuseIf, refuseAt, fallsFrom, lastEnd, firstChecks}
-use Rattle.model.specs.Runs.{mostNumbers, total, runsFrom, runs}
+use Rattle.bound.specs.Bound.{sumFrom, every, named, orderChecks, endChecks, chosenEndChecks, boundBy, probeBound, probeBoundChosen}
+use Rattle.model.proofs.Chosen.{chosen-nil, chosen-in, chosen-out}
+use Rattle.model.proofs.FirstChecks.{Listed, then-first, then-second, lists-passed, not-fallen, end-last, every-run}
+use Rattle.model.proofs.Masks.{bit-of}
+use Rattle.model.proofs.Tests.{both}
+use Rattle.model.specs.Refusals.{passed, _then_, refuseIf, refuseAt, fallsFrom, lastEnd, countCheck, maskCheck, firstChecks, chosenChecks}
+use Rattle.model.specs.Runs.{Run, mostNumbers, total, one, bit, names, slice, runsFrom, runs, chosen}
 
-sum-from : (d i j a : ℕ) (numbers ends : List ℕ) → fallsFrom a i ends ≡ none → lastEnd a ends ≤ length numbers
-    → sumFrom d a ends ≡ bound d (runsFrom j a numbers ends)
-unfolding sumFrom boundOf bound total runsFrom boundIn lastEnd
-sum-from d i j a numbers [] h l = refl
-sum-from d i j a numbers (e ∷ ends) h l =
+-- ---- all runs
+
+all-bits : (k i : ℕ) → i < k → bit (2 ^ k - 1) i ≡ 1
+all-bits k i h =
+    let e : suc (k - suc i) + i ≡ k = omega arith in
+    let s : 2 ^ k - 1 ≡ (2 ^ suc (k - suc i) - 1) * 2 ^ i + (2 ^ i - 1) = ap (λ x. 2 ^ x - 1) (sym e) ∙ ones-split (suc (k - suc i)) i in
+    let q : (2 ^ k - 1) / 2 ^ i ≡ 2 ^ suc (k - suc i) - 1 = ap (λ x. x / 2 ^ i) s ∙ high (2 ^ suc (k - suc i) - 1) i (ones-lt i) in
+    let d : 2 ^ suc (k - suc i) ≡ 2 * 2 ^ (k - suc i) = omega arith in
+    let p = lib.Pow.pow-pos (k - suc i) in
+    bit-of (2 ^ k - 1) i ∙ (ap (λ x. x % 2) q ∙ omega arith)
+
+sum-all : (k d i a : ℕ) (ends : List ℕ) → i + length ends ≤ k → sumFrom (named (2 ^ k - 1)) d i a ends ≡ sumFrom every d i a ends
+unfolding sumFrom
+sum-all k d i a [] h = refl
+sum-all k d i a (e ∷ ends) h =
+    rw (eq-eqb (bit (2 ^ k - 1) i) 1 (all-bits k i (omega arith))) (ap (λ x. one true * boundOf d (e - a) + x) (sum-all k d (suc i) e ends (omega arith)))
+
+pub sum-every : (d : ℕ) (ends : List ℕ) → sumFrom (named (2 ^ length ends - 1)) d 0 0 ends ≡ sumFrom every d 0 0 ends
+sum-every d ends = sum-all (length ends) d 0 0 ends (omega arith)
+
+-- ---- where the first checks pass
+
+-- one run more
+bound-cons : (m d : ℕ) (r : Run) (rs : List Run) → bound d (chosen m (r ∷ rs)) ≡ one (names m r) * boundIn d r + bound d (chosen m rs)
+unfolding one bound total
+bound-cons m d r rs =
+    ⊎-elim
+    (λ (q : names m r ≡ true). rw (chosen-in m r rs q, q) (omega arith))
+    (λ (q : names m r ≡ false). rw (chosen-out m r rs q, q) (omega arith))
+    (both (names m r))
+
+sum-from : (m d i a : ℕ) (numbers ends : List ℕ) → fallsFrom a i ends ≡ none → lastEnd a ends ≤ length numbers
+    → sumFrom (named m) d i a ends ≡ bound d (chosen m (runsFrom i a numbers ends))
+unfolding sumFrom bound total runsFrom lastEnd names boundIn
+sum-from m d i a numbers [] h l = sym (ap (bound d) (chosen-nil m))
+sum-from m d i a numbers (e ∷ ends) h l =
     let n = not-fallen a i e ends h in
-    let s = sum-from d (suc i) (suc j) e numbers ends (n .1) l in
-    let m = end-last e (suc i) ends (n .1) in
+    let s = sum-from m d (suc i) e numbers ends (n .1) l in
+    let z = end-last e (suc i) ends (n .1) in
     let k : length (take (e - a) (drop a numbers)) ≡ e - a = simp (length-take, length-drop) (omega (arith, n .0)) in
-    rw (k, s)
+    sym (bound-cons m d (record { label = i; bins = slice numbers a e }) (runsFrom (suc i) e numbers ends) ∙ rw (k, s))
 
-pub sum-bound : (d t : ℕ) (numbers ends : List ℕ) → firstChecks numbers ends t ≡ passed → sumFrom d 0 ends ≡ bound d (runs numbers ends)
+pub sum-chosen : (m d : ℕ) (numbers ends : List ℕ) → Listed numbers ends → sumFrom (named m) d 0 0 ends ≡ bound d (chosen m (runs numbers ends))
 unfolding runs
-sum-bound d t numbers ends h =
-    let p = first-passed numbers ends t h in
-    sum-from d 0 0 0 numbers ends (p .ends-rise) (omega arith)
+sum-chosen m d numbers ends p = sum-from m d 0 0 numbers ends (p .ends-rise) (let e = p .ends-last in omega arith)
+
+pub sum-bound : (d : ℕ) (numbers ends : List ℕ) → Listed numbers ends → sumFrom every d 0 0 ends ≡ bound d (runs numbers ends)
+sum-bound d numbers ends p = sym (sum-every d ends) ∙ (sum-chosen (2 ^ length ends - 1) d numbers ends p ∙ ap (bound d) (every-run numbers ends))
+
+order-passed : (numbers ends : List ℕ) → Listed numbers ends → orderChecks ends ≡ passed
+unfolding orderChecks _then_ refuseIf refuseAt
+order-passed numbers ends p =
+    let e = p .ends-last in
+    let f = p .few-numbers in
+    let l : lastEnd 0 ends ≤ mostNumbers = omega arith in
+    rw (p .ends-rise, le-ltb mostNumbers (lastEnd 0 ends) l)
+
+-- what the first checks give
+pieces : (t : ℕ) (numbers ends : List ℕ) → firstChecks numbers ends t ≡ passed → (countCheck ends ≡ passed) × Listed numbers ends
+unfolding firstChecks
+pieces t numbers ends h = (then-first _ _ h, lists-passed numbers ends (then-second _ _ (then-second _ _ h)))
+
+chosen-pieces : (m t : ℕ) (numbers ends : List ℕ) → chosenChecks numbers ends m t ≡ passed
+    → (countCheck ends ≡ passed) × (maskCheck (length ends) m 0 ≡ passed) × Listed numbers ends
+unfolding chosenChecks
+chosen-pieces m t numbers ends h =
+    let r = then-second _ _ h in
+    (then-first _ _ h, then-first _ _ r, lists-passed numbers ends (then-second _ _ (then-second _ _ r)))
 
 pub bound-passed : (d t : ℕ) (numbers ends : List ℕ) → firstChecks numbers ends t ≡ passed
     → probeBound ends d ≡ Sum (bound d (runs numbers ends))
-unfolding probeBound endChecks _then_ refuseIf refuseAt
+unfolding probeBound endChecks boundBy _then_
 bound-passed d t numbers ends h =
-    let p = first-passed numbers ends t h in
-    let l : lastEnd 0 ends ≤ mostNumbers = omega arith in
-    rw (number-passed ends (p .some-runs) (p .few-runs), p .ends-rise, le-ltb mostNumbers (lastEnd 0 ends) l, probeBound)
-    (ap Sum (sum-bound d t numbers ends h))
+    let p = pieces t numbers ends h in
+    rw (p .0, order-passed numbers ends (p .1), sum-bound d numbers ends (p .1))
+
+pub chosen-bound-passed : (d m t : ℕ) (numbers ends : List ℕ) → chosenChecks numbers ends m t ≡ passed
+    → probeBoundChosen ends m d ≡ Sum (bound d (chosen m (runs numbers ends)))
+unfolding probeBoundChosen chosenEndChecks boundBy _then_
+chosen-bound-passed d m t numbers ends h =
+    let p = chosen-pieces m t numbers ends h in
+    rw (p .0, p .1, order-passed numbers ends (p .2), sum-chosen m d numbers ends (p .2))

@@ -1,5 +1,5 @@
 -- The tests of one part, each as a law about the model's checks in order. Assumes nothing.
-use Prim.Native.Nat.{ℕ, suc, _+_, _-_, _^_, _≤_, _<_}
+use Prim.Native.Nat.{ℕ, suc, _-_, _^_, _≤_, _<_}
 use borrow.Author.Tests.{eq-eqb, ne-eqb, lt-ltb, le-ltb, eqb-true, not-false}
 use lib.Bits.{bitAnd}
 use lib.Count.{ones}

@@ -1,11 +1,45 @@
 // The C boundary, `include/quorum.h`: each call writes what it returns into a row of 64-bit numbers.
 ghost use mathlib.Core.Path.{_≡_};
-ghost use Rattle.model.specs.Refusals.{query, check};
-ghost use Rattle.bound.specs.Bound.{probeBound};
+ghost use Rattle.model.specs.Refusals.{query, check, checkChosen};
+ghost use Rattle.bound.specs.Bound.{probeBound, probeBoundChosen};
+ghost use Rattle.checker.specs.Verdicts.{verdictIs};
 ghost use Rattle.quorum_rows.specs.Outcomes.{outcomeRow};
 ghost use Rattle.quorum.specs.Results.{verdictRow, boundRow, PartRow};
 use bound::Bound;
 use checker::Verdict;
+
+// A verdict as its row.
+fn put_verdict(verdict: Verdict, result: &mut [u64; 4])
+    ensures { λ r. ⌜ now (result .exit) ≡ verdictRow (verdictIs verdict) ⌝ }
+{
+    match verdict {
+        Verdict::Valid { answers, parts } => {
+            *result = [
+                0,
+                0,
+                arith::u64_of_usize(answers),
+                arith::u64_of_usize(parts),
+            ];
+        }
+        Verdict::Invalid { number, place } => {
+            *result = [number as u64, arith::u64_of_usize(place), 0, 0];
+        }
+    }
+}
+
+// A bound as its row.
+fn put_bound(bound: Bound, result: &mut [u64; 3])
+    ensures { λ r. ⌜ now (result .exit) ≡ boundRow bound ⌝ }
+{
+    match bound {
+        Bound::Sum(sum) => {
+            *result = [0, 0, sum];
+        }
+        Bound::Refused { number, place } => {
+            *result = [number as u64, arith::u64_of_usize(place), 0];
+        }
+    }
+}
 
 #[no_mangle]
 pub extern "C" fn quorum_query(
@@ -35,19 +69,23 @@ pub extern "C" fn quorum_check(
 )
     ensures { λ r. ⌜ now (result .exit) ≡ verdictRow (check (now (numbers .entry)) (now (ends .entry)) threshold (now (certificate .entry))) ⌝ }
 {
-    match checker::check(numbers, ends, threshold, certificate) {
-        Verdict::Valid { answers, parts } => {
-            *result = [
-                0,
-                0,
-                arith::u64_of_usize(answers),
-                arith::u64_of_usize(parts),
-            ];
-        }
-        Verdict::Invalid { number, place } => {
-            *result = [number as u64, arith::u64_of_usize(place), 0, 0];
-        }
-    }
+    let verdict = checker::check(numbers, ends, threshold, certificate);
+    put_verdict(verdict, result);
+}
+
+#[no_mangle]
+pub extern "C" fn quorum_check_chosen(
+    numbers: &[u32],
+    ends: &[u32],
+    mask: u64,
+    threshold: u32,
+    certificate: &[u8],
+    result: &mut [u64; 4],
+)
+    ensures { λ r. ⌜ now (result .exit) ≡ verdictRow (checkChosen (now (numbers .entry)) (now (ends .entry)) mask threshold (now (certificate .entry))) ⌝ }
+{
+    let verdict = checker::check_chosen(numbers, ends, mask, threshold, certificate);
+    put_verdict(verdict, result);
 }
 
 #[no_mangle]
@@ -65,12 +103,19 @@ pub extern "C" fn quorum_between(list: &[u32], first: u32, last: u32, part: &mut
 pub extern "C" fn quorum_probe_bound(ends: &[u32], parts: u32, result: &mut [u64; 3])
     ensures { λ r. ⌜ now (result .exit) ≡ boundRow (probeBound (now (ends .entry)) parts) ⌝ }
 {
-    match bound::probe_bound(ends, parts) {
-        Bound::Sum(sum) => {
-            *result = [0, 0, sum];
-        }
-        Bound::Refused { number, place } => {
-            *result = [number as u64, arith::u64_of_usize(place), 0];
-        }
-    }
+    let bound = bound::probe_bound(ends, parts);
+    put_bound(bound, result);
+}
+
+#[no_mangle]
+pub extern "C" fn quorum_probe_bound_chosen(
+    ends: &[u32],
+    mask: u64,
+    parts: u32,
+    result: &mut [u64; 3],
+)
+    ensures { λ r. ⌜ now (result .exit) ≡ boundRow (probeBoundChosen (now (ends .entry)) mask parts) ⌝ }
+{
+    let bound = bound::probe_bound_chosen(ends, mask, parts);
+    put_bound(bound, result);
 }

@@ -1,96 +1,60 @@
--- `probe_bound` meets its contract. The loop's invariant is `Summed`: the definition from the start is the definition from here. The measure is
--- the number of ends to come. Assumes nothing.
-use Prim.Native.Nat.{_-_, _^_, _<_}
+-- `probe_bound` meets its contract: the runs that the mask of all names are all runs. Assumes nothing.
 use borrow.Author.Needs.{needs}
-use lib.ListN.{length}
-use mathlib.Core.Path.{sym}
-use native.Mathlib.Omega.{arith}
-use Rattle.bound.proofs.Checks.{Summed, start, next, none-refused, many-refused, fall-refused, last-refused, sum-returned}
-use Rattle.bound.proofs.Digits.{bound-fits}
+use mathlib.Core.Path.{_≡_, sym, ap, _∙_}
+use Rattle.first_checks.specs.Checked.{checkOf}
+use Rattle.model.proofs.FirstChecks.{count-passed}
+use Rattle.model.specs.Refusals.{passed, countCheck}
+use Rattle.bound.specs.Bound.{named, sumFrom, orderChecks, endChecks, boundBy, probeBound}
+use Rattle.bound.proofs.Checks.{refused-by, passed-by}
+use Rattle.bound.proofs.Runs.{sum-every}
 use Rattle.bound.proofs.probe_bound.Statement.{statement}
 use Rattle.bound.proofs.probe_bound.Tie as tie
 
-abbrev Inv-loop : tie.InvT-loop
-Inv-loop ends parts k sum₀ before₀ i₀ sum before i = Summed ends parts sum before i
+count-check-requires : tie.Need-count-check-requires
+count-check-requires c κs = search needs
 
-abbrev μ-loop : tie.MeasureT-loop
-μ-loop ends parts k sum₀ before₀ i₀ sum before i = length ends - i
+enum-known-number : tie.Need-enum-known-number
+enum-known-number c = search needs
 
-returns : tie.Need-returns Inv-loop μ-loop
-returns c = sym (none-refused _ _ (c .if1 .taken))
+refused-requires : tie.Need-refused-requires
+refused-requires c κs = search needs
 
-returns-2 : tie.Need-returns-2 Inv-loop μ-loop
-returns-2 c = sym (many-refused _ _ (c .if2 .taken))
+enum-told : tie.Need-enum-told
+enum-told c = search needs
 
-loop-holds : tie.Need-loop-holds Inv-loop μ-loop
-loop-holds c = start _ _
+counted : (c : tie.After-enum-told) → countCheck (c .before .before .before .before .args .ends .now) ≡ passed
+counted c = sym (c .before .before .count-check .ensures) ∙ ap checkOf (c .enum-told .given .1)
 
-mul-end : tie.Need-mul-end Inv-loop μ-loop
-mul-end c = omega arith
+all-runs-requires : tie.Need-all-runs-requires
+all-runs-requires c κs = count-passed _ (counted c) .1
 
-shared-slice-read-end : tie.Need-shared-slice-read-end Inv-loop μ-loop
-shared-slice-read-end c = omega arith
+bound-over-requires : tie.Need-bound-over-requires
+bound-over-requires c κs = count-passed _ (counted (c .before)) .1
 
-returns-3 : tie.Need-returns-3 Inv-loop μ-loop
-returns-3 c =
-    let l = c .before .before .before .loop in
-    sym (fall-refused _ _ (l .sum) (l .before) (l .i) (l .inv) (omega arith) (omega arith) (c .if3 .taken))
+returns : tie.Need-returns
+unfolding probeBound endChecks
+returns c =
+    let n = c .before .before in
+    c .refused .ensures ∙ refused-by _ _ _ (sym (n .before .before .count-check .ensures) ∙ ap checkOf (n .number .given .1))
 
-bound-of-requires : tie.Need-bound-of-requires Inv-loop μ-loop
-bound-of-requires c κs = search needs
-
--- the turn's end and its run's length fit 32 bits, so the run's bound is small
-turn-fits : (c : tie.After-bound-of Inv-loop μ-loop) → c .bound-of .result < 2 ^ 38
-turn-fits c =
-    let l = c .before .before .before .before .loop in
-    let e = c .before .before .shared-slice-known2 .given (l .i) in
-    rw (c .bound-of .ensures) (bound-fits _ _ (omega arith) (omega arith))
-
-add-sum : tie.Need-add-sum Inv-loop μ-loop
-add-sum c = omega (arith, turn-fits c)
-
-add-i : tie.Need-add-i Inv-loop μ-loop
-add-i c = omega arith
-
-loop-less : tie.Need-loop-less Inv-loop μ-loop
-loop-less c = omega arith
-
-loop-again : tie.Need-loop-again Inv-loop μ-loop
-loop-again c =
-    let l = c .before .before .before .before .loop in
-    rw (c .bound-of .ensures)
-    (next _ _ (l .sum) (l .before) (l .i) (l .inv) (omega arith) (c .before .if3 .left) (rw (c .bound-of .ensures) at (turn-fits c)))
-
-usize-of-u32-requires : tie.Need-usize-of-u32-requires Inv-loop μ-loop
-usize-of-u32-requires c κs = search needs
-
-returns-4 : tie.Need-returns-4 Inv-loop μ-loop
-returns-4 c =
-    let l = c .before .before .before .loop in
-    sym (last-refused _ _ (l .sum) (l .before) (l .i) (l .inv) (omega arith) (omega arith) (c .before .before .loop-test .left) (omega (arith, c .before .usize-of-u32 .ensures, c .if4 .taken)))
-
-returns-5 : tie.Need-returns-5 Inv-loop μ-loop
-returns-5 c =
-    let l = c .before .before .before .loop in
-    sym (sum-returned _ _ (l .sum) (l .before) (l .i) (l .inv) (omega arith) (omega arith) (c .before .before .loop-test .left) (omega (arith, c .before .usize-of-u32 .ensures, c .if4 .left)))
+returns-2 : tie.Need-returns-2
+unfolding probeBound endChecks
+returns-2 c =
+    let r = c .before in
+    let a = r .before .before .before .before .before .args in
+    c .bound-over .ensures
+    ∙ (ap (λ m. boundBy (orderChecks (a .ends .now)) (sumFrom (named m) (a .parts) 0 0 (a .ends .now))) (r .all-runs .ensures)
+    ∙ (ap (boundBy (orderChecks (a .ends .now))) (sum-every (a .parts) (a .ends .now)) ∙ passed-by _ _ _ (counted (r .before))))
 
 pub probe-bound-spec : {M : Type 1} → statement M
 probe-bound-spec =
     tie.close
     (tie.spec
-    Inv-loop
-    μ-loop
+    count-check-requires
+    enum-known-number
+    refused-requires
+    enum-told
+    all-runs-requires
+    bound-over-requires
     returns
-    returns-2
-    loop-holds
-    mul-end
-    shared-slice-read-end
-    returns-3
-    bound-of-requires
-    add-sum
-    add-i
-    loop-less
-    loop-again
-    usize-of-u32-requires
-    returns-4
-    returns-5)
+    returns-2)

@@ -1,5 +1,4 @@
 -- `check` returns the model's verdict for any input, and demand 2 holds of it: all runs are those that the mask of all chooses. Assumes nothing.
-use Prim.Native.Nat.{_-_, _^_}
 use lib.ListN.{length}
 use mathlib.Core.Path.{_≡_, sym, ap, _∙_}
 use Rattle.first_checks.specs.Checked.{checkOf}

@@ -1,6 +1,6 @@
 -- `check_passed` places the cursors in their room and counts once how many runs a gap must name. Assumes nothing.
 use lib.ListN.{length}
-use mathlib.Core.Path.{_≡_, ap, _∙_}
+use mathlib.Core.Path.{ap, _∙_}
 use native.Mathlib.Omega.{arith}
 use Rattle.model.proofs.FirstChecks.{fits, ChosenPassed, chosen-passed}
 use Rattle.model.specs.Demands.{Fits}

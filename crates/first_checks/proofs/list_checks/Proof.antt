@@ -1,6 +1,5 @@
 -- `list_checks` tests the ends and then the numbers, each `return` at the first test that is not passed. Assumes nothing.
 use lib.ListN.{length}
-use mathlib.Core.List.{List}
 use mathlib.Core.Option.{none}
 use mathlib.Core.Path.{_≡_, sym, ap, _∙_}
 use Rattle.model.specs.Refusals.{fallsFrom, lastEnd}
