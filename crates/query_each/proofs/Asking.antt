@@ -12,12 +12,12 @@ use Rattle.model.specs.Many.{all-passed, refusal-in, AnsweredMany}
 use Rattle.model.specs.Refusals.{passed, chosenChecks}
 use Rattle.model.specs.Runs.{runs, chosen}
 use Rattle.query_progress.specs.Calls.{callEnded, callOnward}
-use Rattle.query_progress.proofs.Calls.{Fits, after, told, next-on, next-stop, next-fits, call-done}
+use Rattle.query_progress.proofs.Calls.{Fits, after, Told, told, next-on, next-stop, next-fits, call-done}
 use Rattle.walk_progress.specs.Progress.{Counts}
 use Rattle.walk_rounds.specs.declared.End.{End}
-use Rattle.walk_whole.specs.Whole.{ComesTo, walkOver}
+use Rattle.walk_whole.specs.Whole.{countsFrom, ComesTo}
 use Rattle.walk_write.specs.Writes.{countsOf, endsWith}
-use Rattle.query_each.specs.Questions.{countsSo, Fitted, Ready, fromQuestion, endOf, Asks, Answers}
+use Rattle.query_each.specs.Questions.{countsSo, Fitted, Ready, Rows, fromQuestion, endOf, Asks, Answers}
 use Rattle.query_each.specs.declared.Finish.{Finish}
 use Rattle.query_each.specs.declared.Totals.{Totals}
 
@@ -27,9 +27,8 @@ told-so R q a b h =
     let e : 2 * q + 1 ≡ suc (2 * q) = omega arith in
     ap (λ n. set (set R (2 * q) a) n b) e ∙ placed-sets (a ∷ (b ∷ [])) R (2 * q) (omega arith)
 
-module _ (numbers ends masks thresholds : List ℕ) (q : ℕ) (w : Totals) (A B R A′ B′ : List ℕ) (m t : ℕ) (l : q < length masks) (rows : length masks ≡ length thresholds)
-    (m-is : m ≡ getD masks q 0) (t-is : t ≡ getD thresholds q 0) (room : 2 * length masks ≤ length R) (fitted : Fitted A B w) (e : End)
-    (comes : ComesTo (walkOver numbers ends m t) (w .answers) (w .bytes) (w .left) A B A′ B′ e) where
+module _ (numbers ends : List ℕ) (m u t q : ℕ) (w : Totals) (A B R A′ B′ : List ℕ) (t-is : u ≡ t) (room : 2 * q + 2 ≤ length R) (fitted : Fitted A B w) (e : End)
+    (comes : ComesTo numbers ends m u (w .answers) (w .bytes) (w .left) A B A′ B′ e) where
   -- the totals after it
   abbrev pub totals : Totals
   totals = record { answers = e .at .answers; parts = w .parts + e .at .parts; bytes = e .at .bytes; left = e .at .left }
@@ -42,72 +41,68 @@ module _ (numbers ends masks thresholds : List ℕ) (q : ℕ) (w : Totals) (A B 
       let p = fitted .parts in
       record { probes = omega arith; answers = omega arith; bytes = omega arith; parts = omega arith }
 
-  -- the questions from this one on
-  from-here : (allowance : ℕ)
-      → fromQuestion allowance numbers ends masks thresholds q w A B R
-      ≡ callOnward allowance q (countsSo allowance w) A B R (runs numbers ends) (m ∷ drop (suc q) masks) (t ∷ drop (suc q) thresholds)
-  unfolding fromQuestion
-  from-here allowance =
-      (λ i. callOnward allowance q (countsSo allowance w) A B R (runs numbers ends) (drop-cons masks q 0 l i) (drop-cons thresholds q 0 (let r = rows in omega arith) i))
-      ∙ λ i. callOnward allowance q (countsSo allowance w) A B R (runs numbers ends) (sym m-is i ∷ drop (suc q) masks) (sym t-is i ∷ drop (suc q) thresholds)
-
-  ended-so : (allowance : ℕ) → w .left ≤ allowance
-      → Rattle.query_progress.proofs.Calls.Told allowance q (countsSo allowance w) A B R (runs numbers ends) m t (drop (suc q) masks) (drop (suc q) thresholds) (fits allowance)
-      (e .number) (countsOf allowance (e .at)) A′ B′
-  unfolding countsSo endsWith countsOf
-  ended-so allowance h =
-      told allowance q (countsSo allowance w) A B R (runs numbers ends) m t (drop (suc q) masks) (drop (suc q) thresholds) (fits allowance) (e .number)
-      (countsOf allowance (e .at)) A′ B′ (comes .as-asked allowance h)
+  ended-so : (allowance : ℕ) → w .left ≤ allowance → (ms ts : List ℕ)
+      → Told allowance q (countsSo allowance w) A B R (runs numbers ends) m u ms ts (fits allowance) (e .number) (countsOf allowance (e .at)) A′ B′
+  unfolding countsSo endsWith countsOf countsFrom
+  ended-so allowance h ms ts =
+      told allowance q (countsSo allowance w) A B R (runs numbers ends) m u ms ts (fits allowance) (e .number) (countsOf allowance (e .at)) A′ B′
+      (comes .as-asked allowance h)
 
   pub fitted-after : Fitted A′ B′ totals
   unfolding countsSo countsOf
   fitted-after =
-      let f = next-fits (w .left) q (countsSo (w .left) w) A B R (runs numbers ends) m t (drop (suc q) masks) (drop (suc q) thresholds) (fits (w .left)) (e .number)
-      (countsOf (w .left) (e .at)) A′ B′ (ended-so (w .left) (omega arith)) in
+      let f = next-fits (w .left) q (countsSo (w .left) w) A B R (runs numbers ends) m u [] [] (fits (w .left)) (e .number) (countsOf (w .left) (e .at)) A′ B′
+      (ended-so (w .left) (omega arith) [] []) in
       record { answered = f .answers; written = f .bytes; parts = f .parts }
 
+  -- the threshold as it is lent
+  asked-so : (allowance : ℕ) (ms ts : List ℕ)
+      → callOnward allowance q (countsSo allowance w) A B R (runs numbers ends) (m ∷ ms) (t ∷ ts)
+      ≡ callOnward allowance q (countsSo allowance w) A B R (runs numbers ends) (m ∷ ms) (u ∷ ts)
+  asked-so allowance ms ts = ap (λ x. callOnward allowance q (countsSo allowance w) A B R (runs numbers ends) (m ∷ ms) (x ∷ ts)) (sym t-is)
+
   pub asks-on : e .number ≡ 0 → (R′ : List ℕ) → R′ ≡ placed R (2 * q) (e .at .answers ∷ (e .at .bytes ∷ []))
-      → Asks numbers ends masks thresholds q w A B R A′ B′ R′ (record { number = 0; place = 0; question = 0; at = totals })
-  unfolding fromQuestion countsSo countsOf
+      → Asks numbers ends m t q w A B R A′ B′ R′ (record { number = 0; place = 0; question = 0; at = totals })
+  unfolding countsSo countsOf
   asks-on z R′ f =
       record {
-        left = comes .left-over;
+        left = comes .left-then;
         fitted = fitted-after;
-        goes-on = λ y allowance h.
-            from-here allowance
-            ∙ (next-on allowance q (countsSo allowance w) A B R (runs numbers ends) m t (drop (suc q) masks) (drop (suc q) thresholds) (fits allowance) (e .number)
-            (countsOf allowance (e .at)) A′ B′ (ended-so allowance h) z (omega arith)
-            ∙ ap (λ x. fromQuestion allowance numbers ends masks thresholds (suc q) totals A′ B′ x) (sym f));
+        goes-on = λ y allowance h ms ts.
+            asked-so allowance ms ts
+            ∙ (next-on allowance q (countsSo allowance w) A B R (runs numbers ends) m u ms ts (fits allowance) (e .number) (countsOf allowance (e .at)) A′ B′
+            (ended-so allowance h ms ts) z room
+            ∙ ap (λ x. callOnward allowance (suc q) (countsSo allowance totals) A′ B′ x (runs numbers ends) ms ts) (sym f));
         ends-so = λ n y. absurd (omega arith);
       }
 
-  pub asks-stopped : e .number ≢ 0
-      → Asks numbers ends masks thresholds q w A B R A′ B′ R (record { number = e .number; place = e .at .parts; question = q; at = totals })
-  unfolding fromQuestion countsSo countsOf
+  pub asks-stopped : e .number ≢ 0 → Asks numbers ends m t q w A B R A′ B′ R (record { number = e .number; place = e .at .parts; question = q; at = totals })
+  unfolding countsSo countsOf
   asks-stopped z =
       record {
-        left = comes .left-over;
+        left = comes .left-then;
         fitted = fitted-after;
         goes-on = λ y. absurd (z y);
-        ends-so = λ n y allowance h.
-            from-here allowance
-            ∙ next-stop allowance q (countsSo allowance w) A B R (runs numbers ends) m t (drop (suc q) masks) (drop (suc q) thresholds) (fits allowance) (e .number)
-            (countsOf allowance (e .at)) A′ B′ (ended-so allowance h) n y;
+        ends-so = λ n y allowance h ms ts.
+            asked-so allowance ms ts
+            ∙ next-stop allowance q (countsSo allowance w) A B R (runs numbers ends) m u ms ts (fits allowance) (e .number) (countsOf allowance (e .at)) A′ B′
+            (ended-so allowance h ms ts) n y;
       }
 
 -- ---- the questions before index q are asked
 
 pub record Asked (numbers ends masks thresholds : List ℕ) (w₀ : Totals) (A₀ B₀ R₀ positions keys A B R : List ℕ) (w : Totals) (q : ℕ) : Type 0 where
-  pub ready : Ready numbers ends masks thresholds positions keys A B R w
+  pub ready : Ready ends positions keys A B w
+  pub rows : Rows numbers ends masks thresholds R
   pub bound : q ≤ length masks
   pub left : w .left ≤ w₀ .left
   pub same : (allowance : ℕ) → w₀ .left ≤ allowance
       → fromQuestion allowance numbers ends masks thresholds 0 w₀ A₀ B₀ R₀ ≡ fromQuestion allowance numbers ends masks thresholds q w A B R
 
-pub asked-none : (numbers ends masks thresholds : List ℕ) (w : Totals) (A B R positions keys : List ℕ) → Ready numbers ends masks thresholds positions keys A B R w
-    → Asked numbers ends masks thresholds w A B R positions keys A B R w 0
-asked-none numbers ends masks thresholds w A B R positions keys r =
-    record { ready = r; bound = omega arith; left = omega arith; same = λ allowance h. refl }
+pub asked-none : (numbers ends masks thresholds : List ℕ) (w : Totals) (A B R positions keys : List ℕ) → Ready ends positions keys A B w
+    → Rows numbers ends masks thresholds R → Asked numbers ends masks thresholds w A B R positions keys A B R w 0
+asked-none numbers ends masks thresholds w A B R positions keys r s =
+    record { ready = r; rows = s; bound = omega arith; left = omega arith; same = λ allowance h. refl }
 
 end-stopped : (r : Finish) (n : ℕ) → r .number ≡ suc n → refusal-in (r .question) (r .number) (r .place) ≡ endOf r
 unfolding endOf
@@ -115,34 +110,41 @@ end-stopped r n e = rw (e, endOf)
 
 module _ (numbers ends masks thresholds : List ℕ) (w₀ : Totals) (A₀ B₀ R₀ positions keys A B R : List ℕ) (w : Totals) (q : ℕ)
     (h : Asked numbers ends masks thresholds w₀ A₀ B₀ R₀ positions keys A B R w q) where
-  pub asked-more : (positions′ keys′ A′ B′ R′ : List ℕ) (r : Finish) → Asks numbers ends masks thresholds q w A B R A′ B′ R′ r → q < length masks → r .number ≡ 0
+  -- the questions from this one on
+  from-here : q < length masks → (allowance : ℕ)
+      → fromQuestion allowance numbers ends masks thresholds q w A B R
+      ≡ callOnward allowance q (countsSo allowance w) A B R (runs numbers ends) (getD masks q 0 ∷ drop (suc q) masks) (getD thresholds q 0 ∷ drop (suc q) thresholds)
+  unfolding fromQuestion
+  from-here l allowance =
+      let r = h .rows .rows in
+      λ i. callOnward allowance q (countsSo allowance w) A B R (runs numbers ends) (drop-cons masks q 0 l i) (drop-cons thresholds q 0 (omega arith) i)
+
+  pub asked-more : (positions′ keys′ A′ B′ R′ : List ℕ) (r : Finish) → q < length masks
+      → Asks numbers ends (getD masks q 0) (getD thresholds q 0) q w A B R A′ B′ R′ r → r .number ≡ 0
       → length positions′ ≡ length positions → length keys′ ≡ length keys → length R′ ≡ length R
       → Asked numbers ends masks thresholds w₀ A₀ B₀ R₀ positions′ keys′ A′ B′ R′ (r .at) (q + 1)
-  asked-more positions′ keys′ A′ B′ R′ r a l z e f g =
+  unfolding fromQuestion
+  asked-more positions′ keys′ A′ B′ R′ r l a z e f g =
       let k = h .ready in
       let m = h .left in
       let n = a .left in
-      let o = k .room in
+      let o = h .rows .room in
       let i : suc q ≡ q + 1 = omega arith in
       record {
-        ready = record {
-          checked = k .checked;
-          rows = k .rows;
-          room = omega arith;
-          positions-size = e ∙ k .positions-size;
-          keys-size = f ∙ k .keys-size;
-          fitted = a .fitted;
-        };
+        ready = record { positions-size = e ∙ k .positions-size; keys-size = f ∙ k .keys-size; fitted = a .fitted };
+        rows = record { checked = h .rows .checked; rows = h .rows .rows; room = omega arith };
         bound = omega arith;
         left = omega arith;
         same = λ allowance b.
             h .same allowance b
-            ∙ (a .goes-on z allowance (omega arith) ∙ ap (λ x. fromQuestion allowance numbers ends masks thresholds x (r .at) A′ B′ R′) i);
+            ∙ (from-here l allowance
+            ∙ (a .goes-on z allowance (omega arith) (drop (suc q) masks) (drop (suc q) thresholds)
+            ∙ ap (λ x. fromQuestion allowance numbers ends masks thresholds x (r .at) A′ B′ R′) i));
       }
 
-  pub asked-stopped : (A′ B′ R′ : List ℕ) (r : Finish) → Asks numbers ends masks thresholds q w A B R A′ B′ R′ r → r .number ≢ 0
+  pub asked-stopped : (A′ B′ R′ : List ℕ) (r : Finish) → q < length masks → Asks numbers ends (getD masks q 0) (getD thresholds q 0) q w A B R A′ B′ R′ r → r .number ≢ 0
       → Answers numbers ends masks thresholds w₀ A₀ B₀ R₀ A′ B′ R′ r
-  asked-stopped A′ B′ R′ r a z = stopped (r .number) refl
+  asked-stopped A′ B′ R′ r l a z = stopped (r .number) refl
     where
       stopped : (n : ℕ) → r .number ≡ n → Answers numbers ends masks thresholds w₀ A₀ B₀ R₀ A′ B′ R′ r
       stopped zero e = absurd (z e)
@@ -153,7 +155,9 @@ module _ (numbers ends masks thresholds : List ℕ) (w₀ : Totals) (A₀ B₀ R
             left = omega arith;
             comes-to = λ allowance b.
                 h .same allowance b
-                ∙ (a .ends-so n e allowance (omega arith) ∙ ap (λ x. callEnded x (countsSo allowance (r .at)) A′ B′ R′) (end-stopped r n e));
+                ∙ (from-here l allowance
+                ∙ (a .ends-so n e allowance (omega arith) (drop (suc q) masks) (drop (suc q) thresholds)
+                ∙ ap (λ x. callEnded x (countsSo allowance (r .at)) A′ B′ R′) (end-stopped r n e)));
           }
 
   pub asked-all : length masks ≤ q → Answers numbers ends masks thresholds w₀ A₀ B₀ R₀ A B R (record { number = 0; place = 0; question = 0; at = w })

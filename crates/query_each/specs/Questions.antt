@@ -1,6 +1,6 @@
 -- The questions of a call one after another: what each asks, and what the call then comes to. Definitions only.
 use Prim.Native.Nat.{ℕ, zero, suc, _+_, _-_, _*_, _≤_, _<_}
-use mathlib.Core.List.{List}
+use mathlib.Core.List.{List, _∷_}
 use mathlib.Core.Path.{_≡_}
 use lib.ListN.{length, getD, drop}
 use Rattle.model.specs.Many.{ManyCheck, all-passed, refusal-in, AnsweredMany}
@@ -21,14 +21,17 @@ pub record Fitted (A B : List ℕ) (w : Totals) : Type 0 where
   pub written : w .bytes ≤ length B
   pub parts : w .parts ≤ w .bytes
 
--- questions that passed the first checks, rows for their walks, and what is written so far
-pub record Ready (numbers ends masks thresholds positions keys A B R : List ℕ) (w : Totals) : Type 0 where
-  pub checked : (q : ℕ) → q < length masks → chosenChecks numbers ends (getD masks q 0) (getD thresholds q 0) ≡ passed
-  pub rows : length masks ≡ length thresholds
-  pub room : 2 * length masks ≤ length R
+-- rows for the walks, and what is written so far
+pub record Ready (ends positions keys A B : List ℕ) (w : Totals) : Type 0 where
   pub positions-size : length positions ≡ length ends
   pub keys-size : length keys ≡ length ends
   pub fitted : Fitted A B w
+
+-- questions that passed the first checks
+pub record Rows (numbers ends masks thresholds R : List ℕ) : Type 0 where
+  pub checked : (q : ℕ) → q < length masks → chosenChecks numbers ends (getD masks q 0) (getD thresholds q 0) ≡ passed
+  pub rows : length masks ≡ length thresholds
+  pub room : 2 * length masks ≤ length R
 
 -- what a call comes to from question q on
 unfoldable pub fromQuestion : ℕ → List ℕ → List ℕ → List ℕ → List ℕ → ℕ → Totals → List ℕ → List ℕ → List ℕ → AnsweredMany
@@ -39,14 +42,16 @@ fromQuestion allowance numbers ends masks thresholds q w A B R =
 unfoldable pub endOf : Finish → ManyCheck
 endOf r = elim (r .number) [ zero ↦ all-passed | suc n ↦ refusal-in (r .question) (suc n) (r .place) ]
 
--- After question q the call goes on with the next one, or a refusal ended it.
-pub record Asks (numbers ends masks thresholds : List ℕ) (q : ℕ) (w : Totals) (A B R A′ B′ R′ : List ℕ) (r : Finish) : Type 0 where
+-- After question q, whichever are to come, the call goes on with the next one, or a refusal ended it.
+pub record Asks (numbers ends : List ℕ) (m t q : ℕ) (w : Totals) (A B R A′ B′ R′ : List ℕ) (r : Finish) : Type 0 where
   pub left : r .at .left ≤ w .left
   pub fitted : Fitted A′ B′ (r .at)
-  pub goes-on : r .number ≡ 0 → (allowance : ℕ) → w .left ≤ allowance
-      → fromQuestion allowance numbers ends masks thresholds q w A B R ≡ fromQuestion allowance numbers ends masks thresholds (suc q) (r .at) A′ B′ R′
-  pub ends-so : (n : ℕ) → r .number ≡ suc n → (allowance : ℕ) → w .left ≤ allowance
-      → fromQuestion allowance numbers ends masks thresholds q w A B R ≡ callEnded (refusal-in (r .question) (r .number) (r .place)) (countsSo allowance (r .at)) A′ B′ R′
+  pub goes-on : r .number ≡ 0 → (allowance : ℕ) → w .left ≤ allowance → (ms ts : List ℕ)
+      → callOnward allowance q (countsSo allowance w) A B R (runs numbers ends) (m ∷ ms) (t ∷ ts)
+      ≡ callOnward allowance (suc q) (countsSo allowance (r .at)) A′ B′ R′ (runs numbers ends) ms ts
+  pub ends-so : (n : ℕ) → r .number ≡ suc n → (allowance : ℕ) → w .left ≤ allowance → (ms ts : List ℕ)
+      → callOnward allowance q (countsSo allowance w) A B R (runs numbers ends) (m ∷ ms) (t ∷ ts)
+      ≡ callEnded (refusal-in (r .question) (r .number) (r .place)) (countsSo allowance (r .at)) A′ B′ R′
 
 -- the call ended so
 pub record Answers (numbers ends masks thresholds : List ℕ) (w : Totals) (A B R A′ B′ R′ : List ℕ) (r : Finish) : Type 0 where

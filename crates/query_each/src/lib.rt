@@ -1,10 +1,11 @@
 // The questions of a call one after another (docs/SPECIFICATION.md, 'Many questions'), each with what those before it left of the allowance and the buffers.
 ghost use mathlib.Core.Path.{_≡_};
 ghost use mathlib.Core.List.{_∷_, []};
-ghost use Prim.Native.Nat.{_+_, _*_, _≤_, _<_};
+ghost use Prim.Native.Nat.{_+_, _*_, _≤_};
 ghost use lib.ListN.{length};
 ghost use Rattle.field_write.specs.Stored.{placed};
-ghost use Rattle.query_each.specs.Questions.{Ready, Asks, Answers};
+ghost use Rattle.query_each.specs.Questions.{Ready, Rows, Asks, Answers};
+ghost use Rattle.model.specs.Refusals.{passed, chosenChecks};
 use walk_rounds::End;
 
 // What the questions so far have written, and the probes left of the call's allowance.
@@ -37,8 +38,8 @@ fn tell(results: &mut [u64], q: usize, answers: usize, bytes: usize)
 fn question(
     numbers: &[u32],
     ends: &[u32],
-    masks: &[u64],
-    thresholds: &[u32],
+    chosen: u64,
+    threshold: u32,
     q: usize,
     positions: &mut [u32],
     keys: &mut [u64],
@@ -47,14 +48,14 @@ fn question(
     results: &mut [u64],
     totals: Totals,
 ) -> Finish
-    requires { ⌜ Ready (now numbers) (now ends) (now masks) (now thresholds) (now positions) (now keys) (now answers) (now certificate) (now results) totals × (q < length (now masks)) ⌝ }
-    ensures { λ r. ⌜ Asks (now (numbers .entry)) (now (ends .entry)) (now (masks .entry)) (now (thresholds .entry)) q totals (now (answers .entry)) (now (certificate .entry)) (now (results .entry)) (now (answers .exit)) (now (certificate .exit)) (now (results .exit)) r ⌝ }
+    requires { ⌜ Ready (now ends) (now positions) (now keys) (now answers) (now certificate) totals × (chosenChecks (now numbers) (now ends) chosen threshold ≡ passed) × (2 * q + 2 ≤ length (now results)) ⌝ }
+    ensures { λ r. ⌜ Asks (now (numbers .entry)) (now (ends .entry)) chosen threshold q totals (now (answers .entry)) (now (certificate .entry)) (now (results .entry)) (now (answers .exit)) (now (certificate .exit)) (now (results .exit)) r ⌝ }
 {
     let end = walk_whole::whole_walk(
         numbers,
         ends,
-        masks[q],
-        arith::usize_of_u32(thresholds[q]),
+        chosen,
+        arith::usize_of_u32(threshold),
         positions,
         keys,
         answers,
@@ -100,7 +101,7 @@ pub fn each_question(
     results: &mut [u64],
     totals: Totals,
 ) -> Finish
-    requires { ⌜ Ready (now numbers) (now ends) (now masks) (now thresholds) (now positions) (now keys) (now answers) (now certificate) (now results) totals ⌝ }
+    requires { ⌜ Ready (now ends) (now positions) (now keys) (now answers) (now certificate) totals × Rows (now numbers) (now ends) (now masks) (now thresholds) (now results) ⌝ }
     ensures { λ r. ⌜ Answers (now (numbers .entry)) (now (ends .entry)) (now (masks .entry)) (now (thresholds .entry)) totals (now (answers .entry)) (now (certificate .entry)) (now (results .entry)) (now (answers .exit)) (now (certificate .exit)) (now (results .exit)) r ⌝ }
 {
     let mut w = totals;
@@ -109,8 +110,8 @@ pub fn each_question(
         let f = question(
             numbers,
             ends,
-            masks,
-            thresholds,
+            masks[q],
+            thresholds[q],
             q,
             positions,
             keys,

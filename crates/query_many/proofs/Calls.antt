@@ -14,7 +14,7 @@ use Rattle.model.specs.Refusals.{over}
 use Rattle.model.specs.Runs.{pastBin, runs}
 use Rattle.model.proofs.ManyChecks.{many-passed}
 use Rattle.model.proofs.ManyDemands.{many-demand2, many-demand3}
-use Rattle.query_each.specs.Questions.{countsSo, Ready, fromQuestion, endOf, Answers}
+use Rattle.query_each.specs.Questions.{countsSo, Ready, Rows, fromQuestion, endOf, Answers}
 use Rattle.query_each.specs.declared.Finish.{Finish}
 use Rattle.query_each.specs.declared.Totals.{Totals}
 use Rattle.query_progress.specs.Calls.{callOutcome, callEnded, callOnward}
@@ -40,19 +40,15 @@ ended-refused r c h = go (r .number) refl
     go zero e = absurd (h e)
     go (suc n) e = rw (e, endOf)
 
-pub ready-first : (numbers ends masks thresholds : List ℕ) (allowance : ℕ) (A B R positions keys : List ℕ)
-    → manyChecks numbers ends masks thresholds R ≡ all-passed → length positions ≡ length ends → length keys ≡ length ends
-    → Ready numbers ends masks thresholds positions keys A B R (none allowance)
-ready-first numbers ends masks thresholds allowance A B R positions keys e f g =
+pub ready-first : (ends : List ℕ) (allowance : ℕ) (A B positions keys : List ℕ) → length positions ≡ length ends → length keys ≡ length ends
+    → Ready ends positions keys A B (none allowance)
+ready-first ends allowance A B positions keys f g =
+    record { positions-size = f; keys-size = g; fitted = record { answered = omega arith; written = omega arith; parts = omega arith } }
+
+pub rows-first : (numbers ends masks thresholds R : List ℕ) → manyChecks numbers ends masks thresholds R ≡ all-passed → Rows numbers ends masks thresholds R
+rows-first numbers ends masks thresholds R e =
     let p = many-passed numbers ends masks thresholds R e in
-    record {
-      checked = p .each;
-      rows = p .rows;
-      room = p .room;
-      positions-size = f;
-      keys-size = g;
-      fitted = record { answered = omega arith; written = omega arith; parts = omega arith };
-    }
+    record { checked = p .each; rows = p .rows; room = p .room }
 
 pub ends-so : (numbers ends masks thresholds : List ℕ) (allowance : ℕ) (A B R A′ B′ R′ : List ℕ) (r : Finish) (o : ManyOutcome)
     → manyChecks numbers ends masks thresholds R ≡ all-passed → Answers numbers ends masks thresholds (none allowance) A B R A′ B′ R′ r

@@ -1,33 +1,20 @@
 -- `question` walks over the runs that its mask chooses and tells where it ended. Assumes nothing.
-use Prim.Native.Nat.{ℕ, _+_, _*_, _≤_}
-use lib.ListN.{length, getD}
-use mathlib.Core.Path.{_≡_, refl, sym, ap, _∙_, subst}
+use Prim.Native.Nat.{_+_}
+use mathlib.Core.Path.{_≡_, ap, _∙_}
 use native.Mathlib.Omega.{arith}
-use Rattle.model.specs.Refusals.{passed, chosenChecks}
-use Rattle.query_each.specs.Questions.{Asks, Fitted}
+use Rattle.model.specs.Refusals.{chosenChecks}
+use Rattle.query_each.specs.Questions.{Fitted}
 use Rattle.query_each.proofs.Asking.{fitted-after, asks-on, asks-stopped}
 use borrow.Author.Needs.{needs}
 use Rattle.query_each.proofs.question.Statement.{statement}
 use Rattle.query_each.proofs.question.Tie as tie
-
-mul-whole-walk : tie.Need-mul-whole-walk
-mul-whole-walk c = search needs
-
-shared-slice-read-whole-walk : tie.Need-shared-slice-read-whole-walk
-shared-slice-read-whole-walk c = search needs
-
-mul-usize-of-u32 : tie.Need-mul-usize-of-u32
-mul-usize-of-u32 c = search needs
-
-shared-slice-read-usize-of-u32 : tie.Need-shared-slice-read-usize-of-u32
-shared-slice-read-usize-of-u32 c = search needs
 
 usize-of-u32-requires : tie.Need-usize-of-u32-requires
 usize-of-u32-requires c κs = search needs
 
 -- where the function starts, from the walk's call and from its end
 abbrev start-of : tie.After-whole-walk-arg4 → tie.Start
-start-of c = c .before .before .before .before .before .before .before .before .before .before .before .before .before .before .before .before
+start-of c = c .before .before .before .before .before .before .before .before .before .before .before .before
 
 abbrev begun : tie.After-whole-walk → tie.Start
 begun c = start-of (c .before)
@@ -37,13 +24,12 @@ whole-walk-requires c κs =
     let s = start-of c in
     let a = s .args in
     let r = s .pre .0 in
-    let e = c .before .before .before .before .usize-of-u32 .ensures in
     record {
-      checked = ap (chosenChecks (a .numbers .now) (a .ends .now) (getD (a .masks .now) (a .q) 0)) e ∙ r .checked (a .q) (s .pre .1);
+      checked = ap (chosenChecks (a .numbers .now) (a .ends .now) (a .chosen)) (c .before .before .before .before .usize-of-u32 .ensures) ∙ s .pre .1;
       positions-size = r .positions-size;
       keys-size = r .keys-size;
-      answered-fits = r .fitted .answered;
-      written-fits = r .fitted .written;
+      answers-fit = r .fitted .answered;
+      bytes-fit = r .fitted .written;
     }
 
 -- what is then written fits the buffers
@@ -54,9 +40,8 @@ fits : (c : tie.After-whole-walk)
 fits u =
     let s = begun u in
     let a = s .args in
-    fitted-after (a .numbers .now) (a .ends .now) (a .masks .now) (a .thresholds .now) (a .q) (a .totals) (a .answers .now) (a .certificate .now) (a .results .now)
-    (u .whole-walk .last .1 .1 .1 .1 .1 .1 .0) (u .whole-walk .last .1 .1 .1 .1 .1 .1 .1 .0) _ _ (s .pre .1) (s .pre .0 .rows) refl
-    (u .before .before .before .before .before .usize-of-u32 .ensures) (s .pre .0 .room) (s .pre .0 .fitted) (u .whole-walk .result) (u .whole-walk .ensures)
+    fitted-after (a .numbers .now) (a .ends .now) (a .chosen) _ (a .threshold) (a .q) (a .totals) (a .answers .now) (a .certificate .now) (a .results .now) (u .whole-walk .last .1 .1 .1 .1 .1 .1 .0) (u .whole-walk .last .1 .1 .1 .1 .1 .1 .1 .0)
+    (u .before .before .before .before .before .usize-of-u32 .ensures) (s .pre .2) (s .pre .0 .fitted) (u .whole-walk .result) (u .whole-walk .ensures)
 
 add-t15 : tie.Need-add-t15
 add-t15 c = let f = fits (c .before .before .before .before .before .before .before .before .before .before .before) in omega (arith, f .parts)
@@ -78,16 +63,11 @@ returns c =
     let u = c .before .before .before .before .before .before .before .before .before .before .before .before .before in
     let s = begun u in
     let a = s .args in
-    asks-stopped (a .numbers .now) (a .ends .now) (a .masks .now) (a .thresholds .now) (a .q) (a .totals) (a .answers .now) (a .certificate .now) (a .results .now)
-    (u .whole-walk .last .1 .1 .1 .1 .1 .1 .0) (u .whole-walk .last .1 .1 .1 .1 .1 .1 .1 .0) _ _ (s .pre .1) (s .pre .0 .rows) refl
-    (u .before .before .before .before .before .usize-of-u32 .ensures) (s .pre .0 .room) (s .pre .0 .fitted) (u .whole-walk .result) (u .whole-walk .ensures) (c .if1 .taken)
+    asks-stopped (a .numbers .now) (a .ends .now) (a .chosen) _ (a .threshold) (a .q) (a .totals) (a .answers .now) (a .certificate .now) (a .results .now) (u .whole-walk .last .1 .1 .1 .1 .1 .1 .0) (u .whole-walk .last .1 .1 .1 .1 .1 .1 .1 .0)
+    (u .before .before .before .before .before .usize-of-u32 .ensures) (s .pre .2) (s .pre .0 .fitted) (u .whole-walk .result) (u .whole-walk .ensures) (c .if1 .taken)
 
 tell-requires : tie.Need-tell-requires
-tell-requires c κs =
-    let s = begun (c .before .before .before .before .before .before .before .before .before .before .before .before .before .before) in
-    let r = s .pre .0 .room in
-    let l = s .pre .1 in
-    omega arith
+tell-requires c κs = begun (c .before .before .before .before .before .before .before .before .before .before .before .before .before .before) .pre .2
 
 same-length-5 : tie.Need-same-length-5
 same-length-5 c = search needs
@@ -109,19 +89,13 @@ returns-2 c =
     let u = c .before .before .before .before .before .before .before .before .before .before .before .before .before .before .before .before .before in
     let s = begun u in
     let a = s .args in
-    asks-on (a .numbers .now) (a .ends .now) (a .masks .now) (a .thresholds .now) (a .q) (a .totals) (a .answers .now) (a .certificate .now) (a .results .now)
-    (u .whole-walk .last .1 .1 .1 .1 .1 .1 .0) (u .whole-walk .last .1 .1 .1 .1 .1 .1 .1 .0) _ _ (s .pre .1) (s .pre .0 .rows) refl
-    (u .before .before .before .before .before .usize-of-u32 .ensures) (s .pre .0 .room) (s .pre .0 .fitted) (u .whole-walk .result) (u .whole-walk .ensures) (c .before .before .before .before .if1 .left)
-    _ (c .before .before .tell .ensures)
+    asks-on (a .numbers .now) (a .ends .now) (a .chosen) _ (a .threshold) (a .q) (a .totals) (a .answers .now) (a .certificate .now) (a .results .now) (u .whole-walk .last .1 .1 .1 .1 .1 .1 .0) (u .whole-walk .last .1 .1 .1 .1 .1 .1 .1 .0)
+    (u .before .before .before .before .before .usize-of-u32 .ensures) (s .pre .2) (s .pre .0 .fitted) (u .whole-walk .result) (u .whole-walk .ensures) (c .before .before .before .before .if1 .left) _ (c .before .before .tell .ensures)
 
 pub question-spec : {M : Type 1} → statement M
 question-spec =
     tie.close
     (tie.spec
-    mul-whole-walk
-    shared-slice-read-whole-walk
-    mul-usize-of-u32
-    shared-slice-read-usize-of-u32
     usize-of-u32-requires
     whole-walk-requires
     add-t15

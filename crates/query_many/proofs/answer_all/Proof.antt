@@ -5,7 +5,7 @@ use Rattle.model.specs.Runs.{mostRuns}
 use Rattle.model.proofs.FirstChecks.{count-passed}
 use Rattle.model.proofs.ManyChecks.{many-passed}
 use Rattle.query_many.specs.Outcomes.{manyOutcomeIs}
-use Rattle.query_many.proofs.Calls.{ready-first, ends-so}
+use Rattle.query_many.proofs.Calls.{ready-first, rows-first, ends-so}
 use borrow.Author.Needs.{needs}
 use Rattle.query_many.proofs.answer_all.Statement.{statement}
 use Rattle.query_many.proofs.answer_all.Tie as tie
@@ -38,8 +38,10 @@ each-question-requires : tie.Need-each-question-requires
 each-question-requires c κs =
     let s = c .before .before .before .before .before .before .before .before .before .before .before .before in
     let a = s .args in
-    ready-first (a .numbers .now) (a .ends .now) (a .masks .now) (a .thresholds .now) (a .allowance) (a .answers .now) (a .certificate .now) (a .results .now) _ _ (s .pre)
-    (search needs) (search needs)
+    (
+      ready-first (a .ends .now) (a .allowance) (a .answers .now) (a .certificate .now) _ _ (search needs) (search needs),
+      rows-first (a .numbers .now) (a .ends .now) (a .masks .now) (a .thresholds .now) (a .results .now) (s .pre),
+    )
 
 outcome-of-requires : tie.Need-outcome-of-requires
 outcome-of-requires c κs = search needs
