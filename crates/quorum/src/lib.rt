@@ -1,8 +1,10 @@
 // The C boundary, `include/quorum.h`: each call writes what it returns into a row of 64-bit numbers.
 ghost use mathlib.Core.Path.{_≡_};
+ghost use Rattle.model.specs.Many.{queryMany};
 ghost use Rattle.model.specs.Refusals.{query, check, checkChosen};
 ghost use Rattle.bound.specs.Bound.{probeBound, probeBoundChosen};
 ghost use Rattle.checker.specs.Verdicts.{verdictIs};
+ghost use Rattle.quorum_many.specs.Rows.{manyRow};
 ghost use Rattle.quorum_rows.specs.Outcomes.{outcomeRow};
 ghost use Rattle.quorum.specs.Results.{verdictRow, boundRow, PartRow};
 use bound::Bound;
@@ -57,6 +59,36 @@ pub extern "C" fn quorum_query(
 {
     let outcome = query::query(numbers, ends, threshold, allowance, answers, certificate);
     quorum_rows::put_outcome(outcome, result);
+}
+
+#[no_mangle]
+pub extern "C" fn quorum_query_many(
+    numbers: &[u32],
+    ends: &[u32],
+    masks: &[u64],
+    thresholds: &[u32],
+    allowance: u32,
+    answers: &mut [u32],
+    certificate: &mut [u8],
+    results: &mut [u64],
+    result: &mut [u64; 7],
+)
+    ensures row { λ r. ⌜ now (result .exit) ≡ manyRow (queryMany (now (numbers .entry)) (now (ends .entry)) (now (masks .entry)) (now (thresholds .entry)) allowance (now (answers .entry)) (now (certificate .entry)) (now (results .entry)) .outcome) ⌝ }
+    ensures answered { λ r. ⌜ now (answers .exit) ≡ queryMany (now (numbers .entry)) (now (ends .entry)) (now (masks .entry)) (now (thresholds .entry)) allowance (now (answers .entry)) (now (certificate .entry)) (now (results .entry)) .answers ⌝ }
+    ensures certified { λ r. ⌜ now (certificate .exit) ≡ queryMany (now (numbers .entry)) (now (ends .entry)) (now (masks .entry)) (now (thresholds .entry)) allowance (now (answers .entry)) (now (certificate .entry)) (now (results .entry)) .certificate ⌝ }
+    ensures told { λ r. ⌜ now (results .exit) ≡ queryMany (now (numbers .entry)) (now (ends .entry)) (now (masks .entry)) (now (thresholds .entry)) allowance (now (answers .entry)) (now (certificate .entry)) (now (results .entry)) .results ⌝ }
+{
+    let outcome = query_many::query_many(
+        numbers,
+        ends,
+        masks,
+        thresholds,
+        allowance,
+        answers,
+        certificate,
+        results,
+    );
+    quorum_many::put_many(outcome, result);
 }
 
 #[no_mangle]
