@@ -30,7 +30,7 @@ pub sum-bound : (d t : ℕ) (numbers ends : List ℕ) → firstChecks numbers en
 unfolding runs
 sum-bound d t numbers ends h =
     let p = first-passed numbers ends t h in
-    sum-from d 0 0 0 numbers ends (p .ends-rise) (omega arith)
+    sum-from d 0 0 0 numbers ends (p .lists .ends-rise) (omega arith)
 
 pub bound-passed : (d t : ℕ) (numbers ends : List ℕ) → firstChecks numbers ends t ≡ passed
     → probeBound ends d ≡ Sum (bound d (runs numbers ends))
@@ -38,5 +38,5 @@ unfolding probeBound endChecks _then_ refuseIf refuseAt
 bound-passed d t numbers ends h =
     let p = first-passed numbers ends t h in
     let l : lastEnd 0 ends ≤ mostNumbers = omega arith in
-    rw (number-passed ends (p .some-runs) (p .few-runs), p .ends-rise, le-ltb mostNumbers (lastEnd 0 ends) l, probeBound)
+    rw (number-passed ends (p .some-runs) (p .few-runs), p .lists .ends-rise, le-ltb mostNumbers (lastEnd 0 ends) l, probeBound)
     (ap Sum (sum-bound d t numbers ends h))

@@ -103,11 +103,11 @@ pub begins : (numbers ends : List ℕ) (t : ℕ) (cursors : List ℕ) → Fits p
 unfolding runs
 begins numbers ends t cursors f e l =
     let p = first-passed numbers ends t e in
-    let o : Ordered numbers ends 0 0 = record { rise = p .ends-rise; last = p .ends-last } in
+    let o : Ordered numbers ends 0 0 = record { rise = p .lists .ends-rise; last = p .lists .ends-last } in
     let r = fit numbers ends t f e in
     record {
       few = p .few-runs;
-      short = p .few-numbers;
+      short = p .lists .few-numbers;
       starts = λ i h. next-end numbers ends (startOf ends i) i h (ordered numbers ends o i h) .0;
       inside = λ i h. next-end numbers ends (startOf ends i) i h (ordered numbers ends o i h) .1;
       risen = λ i h. let m = member 0 0 numbers ends i h in r .rising .each _ (m .1);
