@@ -5,7 +5,7 @@ use mathlib.Core.Bool.{true, false}
 use mathlib.Core.Path.{_≡_, refl}
 use Rattle.model.specs.Certificate.{firstOf, lastOf, answersOf, bytesOf, numberOf, field, encodePart, encode, readBody, readField}
 use Rattle.model.specs.Compared.{wholeWalk, partsOf, cost, probe, probesOf}
-use Rattle.model.specs.Refusals.{_then_, refuseIf, refuseAt, fallsFrom, lastEnd, unrisenIn, firstChecks, met, after, cut, cutWalk, over, outcomeOf, query}
+use Rattle.model.specs.Refusals.{_then_, refuseIf, refuseAt, fallsFrom, lastEnd, unrisenIn, countCheck, thresholdCheck, listChecks, firstChecks, met, after, cut, cutWalk, over, outcomeOf, query}
 use Rattle.model.specs.Runs.{firstBin, lastBin, pastBin, runsFrom, runs, unrisenAfter, unrisen, total, one, count, mask}
 use Rattle.model.specs.Walk.{headOf, head, leastHead, tthHead, doubling, halving, seek, searchIn, searches, searched, movedOn, settle, round, walk}
 use Rattle.text_read.specs.Pieces.{onFirst, split}
@@ -25,7 +25,7 @@ pub listing-printed : (hits false listingInput ≡ listingText) × (hits false r
 unfolding listingInput listingText refusedInput refusedText partInput partText bytes hits printed parsed textFor asked shown
     mostBytes inputRuns inputNumbers answerRoom certificateRoom onFirst split allDigits decimalValue number before numbersOf pair twoWords headingOf runOf runBefore linesFrom limited row endsFrom resultOf parseLines parse
     firstOf lastOf answersOf bytesOf numberOf field encodePart encode readBody readField wholeWalk partsOf cost probe probesOf
-    _then_ refuseIf refuseAt fallsFrom lastEnd unrisenIn firstChecks met after cut cutWalk over outcomeOf query
+    _then_ refuseIf refuseAt fallsFrom lastEnd unrisenIn countCheck thresholdCheck listChecks firstChecks met after cut cutWalk over outcomeOf query
     firstBin lastBin pastBin runsFrom runs unrisenAfter unrisen total one count mask
     headOf head leastHead tthHead doubling halving seek searchIn searches searched movedOn settle round walk
     decimalIn decimal numbersAfter line partLine partLines doneLine refuseLine partsFrom partsHeld rendered

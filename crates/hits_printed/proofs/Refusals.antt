@@ -12,7 +12,7 @@ use mathlib.Core.Path.{_≡_, refl, sym, ap, _∙_, subst}
 use native.Mathlib.Omega.{arith}
 use Rattle.model.specs.Certificate.{Part, answer, gap}
 use Rattle.model.specs.Demands.{Fits}
-use Rattle.model.specs.Refusals.{Check, passed, refusal, _then_, refuseIf, refuseAt, fallsFrom, lastEnd, firstChecks, Outcome, accepted, refused, query}
+use Rattle.model.specs.Refusals.{Check, passed, refusal, _then_, refuseIf, refuseAt, fallsFrom, lastEnd, countCheck, thresholdCheck, listChecks, firstChecks, Outcome, accepted, refused, query}
 use Rattle.model.specs.Runs.{lastBin, pastBin, mostNumbers, runs}
 use Rattle.model.proofs.Enough.{room-enough}
 use Rattle.model.proofs.Tests.{lt-or-le, and-true, or-false}
@@ -236,7 +236,7 @@ none-left last count p e h =
     rw (eq-eqb last count e, le-ltb mostNumbers count l)
 
 door : (rs : List (List ℕ)) (t : ℕ) → length (text.row rs) ≤ inputNumbers → Door (firstChecks (text.row rs) (text.endsFrom 0 rs) t)
-unfolding firstChecks OfThese
+unfolding firstChecks countCheck thresholdCheck listChecks OfThese
 door rs t h =
     let l : lastEnd 0 (text.endsFrom 0 rs) ≡ length (text.row rs) = let k = ends-last 0 rs in omega arith in
     door-then _ _ (door-if _ 1 _ (inl refl))

@@ -182,8 +182,12 @@ module _ (rs : List Run) (t allowance : ℕ) (answers certificate : List ℕ) wh
       (take (bytesIn (outcomeOf asked)) (over (encode (partsOf (asked .events))) certificate)) (length ps)
   unfolding asked cutWalk
   bounded-asked g ps c =
-      rw (certificate-front, outcome-refused (asked .events) (asked .refused), outcome-parts (asked .events) (asked .refused),
-      outcome-probes (asked .events) (asked .refused))
+      rw (
+        certificate-front,
+        outcome-refused (asked .events) (asked .refused),
+        outcome-parts (asked .events) (asked .refused),
+        outcome-probes (asked .events) (asked .refused),
+      )
       (bounded-walk rs t (record { probes = allowance; answers = length answers; bytes = length certificate }) g ps c)
 
 -- a question whose first checks pass is its ended walk

@@ -94,8 +94,12 @@ module _ (numbers ends masks thresholds : List ℕ) (allowance : ℕ) (answers c
       (allBytes (manyOutcome c (eventsOf ws))) 1 q)
   certified-each q h =
       let l = in-walks q h in
-      rw (ended-by ws (length masks) c end q l, parts-are q l, own-answers ws (length masks) c answers results end q l,
-      own-bytes ws (length masks) c certificate results end q l)
+      rw (
+        ended-by ws (length masks) c end q l,
+        parts-are q l,
+        own-answers ws (length masks) c answers results end q l,
+        own-bytes ws (length masks) c certificate results end q l,
+      )
       (certified q l)
 
   bounded-each : (ps : ℕ → List Part)

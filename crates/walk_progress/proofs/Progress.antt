@@ -65,7 +65,7 @@ pub record Fitting (allowance : ℕ) (c : Counts) (answers certificate : List �
   pub answered : c .answers ≤ length answers
   pub written : c .bytes ≤ length certificate
 
-counts-same : {a a′ p p′ b b′ q q′ : ℕ} → a ≡ a′ → p ≡ p′ → b ≡ b′ → q ≡ q′
+pub counts-same : {a a′ p p′ b b′ q q′ : ℕ} → a ≡ a′ → p ≡ p′ → b ≡ b′ → q ≡ q′
     → _≡_ {A = Counts} (record { answers = a; parts = p; bytes = b; probes = q }) (record { answers = a′; parts = p′; bytes = b′; probes = q′ })
 counts-same e f g h i = record { answers = e i; parts = f i; bytes = g i; probes = h i }
 

@@ -72,12 +72,7 @@ pub fn last_gap(chosen: u64, keys: &[u64], certificate: &mut [u8], w: State) -> 
     ensures { λ r. ⌜ LastGap chosen (now (keys .entry)) w (now (certificate .entry)) (now (certificate .exit)) r ⌝ }
 {
     let headed = walk_keys::front(keys, w.start, walk_keys::NO_KEY);
-    let Wrote::On(x) = gap_to(
-        certificate,
-        w,
-        limits::LAST_BIN,
-        chosen - headed.named,
-    ) else {
+    let Wrote::On(x) = gap_to(certificate, w, limits::LAST_BIN, chosen - headed.named) else {
         return Turn::Stopped(6, w);
     };
     Turn::Done(x)

@@ -2,6 +2,7 @@
 use Prim.Native.Nat.{_≤_}
 use lib.ListN.{length}
 use mathlib.Core.Path.{_≡_, sym, subst}
+use native.Mathlib.Omega.{arith}
 use Rattle.model.specs.Refusals.{passed, chosenChecks}
 use Rattle.model.specs.Runs.{mostRuns}
 use Rattle.model.proofs.FirstChecks.{first-passed, all-chosen-checks}
@@ -15,7 +16,7 @@ few : (c : tie.After-slice-known2) → length (c .before .before .before .before
 few c = let s = c .before .before .before .before in let a = s .args in first-passed (a .numbers .now) (a .ends .now) (a .threshold) (s .pre) .few-runs
 
 all-runs-requires : tie.Need-all-runs-requires
-all-runs-requires c κs = few c
+all-runs-requires c κs = let k = few c in omega arith
 
 sub-whole-walk : tie.Need-sub-whole-walk
 sub-whole-walk c = search needs

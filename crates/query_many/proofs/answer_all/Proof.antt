@@ -37,8 +37,7 @@ part-keys-end c = few (c .before)
 each-question-requires : tie.Need-each-question-requires
 each-question-requires c κs =
     let s = c .before .before .before .before .before .before .before .before .before .before .before .before in
-    let a = s .args in
-    (
+    let a = s .args in (
       ready-first (a .ends .now) (a .allowance) (a .answers .now) (a .certificate .now) _ _ (search needs) (search needs),
       rows-first (a .numbers .now) (a .ends .now) (a .masks .now) (a .thresholds .now) (a .results .now) (s .pre),
     )

@@ -40,8 +40,9 @@ sub-gap-before c =
     let f = c .before in
     let s = f .before .before .before .before .before .before .before .before .before in
     let a = s .args in
-    named-small (a .numbers .now) (a .ends .now) (a .positions .now) (a .keys .now) (a .answers .now) (a .certificate .now) (a .chosen) (a .threshold) (a .v) (a .w)
-    (f .front .result .count) (f .front .result .named) (s .pre .0) (s .pre .1) (s .pre .2) (s .pre .3) (counts f) (f .front .ensures .1)
+    let l = named-small (a .numbers .now) (a .ends .now) (a .positions .now) (a .keys .now) (a .answers .now) (a .certificate .now) (a .chosen) (a .threshold) (a .v) (a .w)
+    (f .front .result .count) (f .front .result .named) (s .pre .0) (s .pre .1) (s .pre .2) (s .pre .3) (counts f) (f .front .ensures .1) in
+    omega arith
 
 gap-before-requires : tie.Need-gap-before-requires
 gap-before-requires c κs = search needs

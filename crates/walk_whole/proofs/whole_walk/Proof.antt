@@ -25,7 +25,7 @@ all-rounds-requires c κs =
     let s = k .before in
     let a = s .args in
     stands-first (a .numbers .now) (a .ends .now) (a .chosen) (a .threshold) (a .positions .now) (a .keys .now) (a .answers .now) (a .certificate .now) (a .answered) (a .written) (s .pre)
-    (fits-bins k) (g .begin .last .1 .1 .1 .0) (g .begin .last .1 .1 .1 .1 .0) (g .begin .result) (a .left) (g .begin .ensures)
+    (fits-bins k) (g .begin .last .1 .1 .1 .0) (g .begin .last .1 .1 .1 .1 .0) (g .begin .result) _ (g .begin .ensures)
 
 same-length : tie.Need-same-length
 same-length c = search needs
