@@ -12,7 +12,8 @@ use Rattle.field_read.specs.Reading.{partOf, readingOf, EndsFrom}
 use Rattle.field_read.specs.declared.Field as field
 use Rattle.field_read.specs.declared.Field.the-variants.{Read, Unreadable}
 use Rattle.field_read.specs.declared.Part as code
-use Rattle.model.proofs.Checking.{size-pos, check-read}
+use Rattle.model.proofs.Checking.{check-read}
+use Rattle.model.proofs.Encoding.{size-pos}
 use Rattle.model.specs.Certificate.{Part, answer, gap, lastOf, sizeOf, unreadable, read, readField}
 use Rattle.model.specs.Refusals.{refusal, Verdict, valid, invalid, checkPart, counted, atEnd, checkFrom}
 use Rattle.model.specs.Runs.{Run, pastBin, runs, chosen}

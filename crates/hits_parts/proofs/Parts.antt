@@ -13,7 +13,7 @@ use Rattle.field_read.specs.Reading.{partOf, readingOf, EndsFrom}
 use Rattle.field_read.specs.declared.Field.{Field}
 use Rattle.field_read.specs.declared.Field.the-variants.{Read, Unreadable}
 use Rattle.field_read.specs.declared.Part as code
-use Rattle.model.proofs.Checking.{size-pos}
+use Rattle.model.proofs.Encoding.{size-pos}
 use Rattle.model.proofs.Tests.{both, and-true, lt-or-le}
 use Rattle.model.specs.Certificate.{Part, answer, gap, numberOf, sizeOf, Reading, unreadable, read, readBody, readField}
 use Rattle.text_write.specs.Laying.{Lays}

@@ -6,8 +6,7 @@ use mathlib.Core.List.{List, [], _∷_, List·Memᴰ·head, List·Memᴰ·tail}
 use mathlib.Core.Logic.{⊎-elim}
 use mathlib.Core.Path.{_≡_, refl, ap}
 use native.Mathlib.Omega.{arith}
-use Rattle.model.proofs.Checking.{size-pos}
-use Rattle.model.proofs.Encoding.{drop-fits, read-field}
+use Rattle.model.proofs.Encoding.{size-pos, drop-fits, read-field}
 use Rattle.model.specs.Certificate.{Part, answer, gap, numberOf, sizeOf, read, readField}
 use Rattle.model.specs.Demands.{Fits}
 use Rattle.text_write.proofs.Decimals.{decimal-few}

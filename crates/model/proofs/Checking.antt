@@ -16,7 +16,7 @@ use Rattle.model.specs.Demands.{Fits, Accepts}
 use Rattle.model.specs.Between.{within}
 use Rattle.model.specs.Refusals.{Check, passed, refusal, _then_, refuseIf, firstChecks, chosenChecks, Verdict, valid, invalid, misplaced, namesOther, misnamed, contradicts, anyContradicts, checkPart, counted, atEnd, checkFrom, judged, check, checkChosen}
 use Rattle.model.specs.Runs.{Run, firstBin, pastBin, runs, mask, maskOfAll, bit, names, chosen, mostRuns, maskBits}
-use Rattle.model.proofs.Encoding.{InRange, read-back, part-size, read-field}
+use Rattle.model.proofs.Encoding.{InRange, read-back, part-size, size-pos, read-field}
 use Rattle.model.proofs.Fewest.{covers-nil, covers-first, covers-order, covers-rest}
 use Rattle.model.proofs.Chosen.{chosen-mem, chosen-ascending}
 use Rattle.model.proofs.Digits.{below-pow}
@@ -166,11 +166,6 @@ settles rs t b at p a e l n h =
     rw (eq-eqb (firstOf p) b e, le-ltb (lastOf p) (firstOf p) l, ne-eqb b pastBin n, true-named a h, true-agrees h)
 
 -- ---- the whole
-
-pub size-pos : (p : Part) → 0 < sizeOf p
-unfolding sizeOf
-size-pos (answer v m) = omega arith
-size-pos (gap f l m) = omega arith
 
 -- one more part
 counted-valid : (p : Part) (v : Verdict) (a n : ℕ) → counted p v ≡ valid a n

@@ -16,7 +16,7 @@ use Rattle.model.specs.Many.{leftAfter}
 use Rattle.model.specs.Refusals.{Room, met, after, cut}
 use Rattle.model.specs.Walk.{Event, sought, doubled, halved, wrote}
 use Rattle.model.proofs.Events.{cost-append, parts-append}
-use Rattle.model.proofs.Encoding.{part-size}
+use Rattle.model.proofs.Encoding.{part-size, size-pos}
 use Rattle.model.proofs.Tests.{both, lt-or-le, eq-or-ne}
 
 -- the step equations of a cut
@@ -219,12 +219,7 @@ cut-fitted room (e ∷ es) =
     (λ n h. rw (cut-here room n e es h) (record { answers = omega arith; bytes = omega arith; answers-left = omega arith; bytes-left = omega arith }))
 
 -- a part takes at least one byte
-some-bytes : (p : Part) → 0 < sizeOf p
-unfolding sizeOf
-some-bytes (answer v m) = omega arith
-some-bytes (gap f l m) = omega arith
-
 pub parts-bytes : (ps : List Part) → length ps ≤ length (encode ps)
 unfolding encode
 parts-bytes [] = omega arith
-parts-bytes (p ∷ ps) = let i = parts-bytes ps in let n = encoded p ps in let s = some-bytes p in omega arith
+parts-bytes (p ∷ ps) = let i = parts-bytes ps in let n = encoded p ps in let s = size-pos p in omega arith

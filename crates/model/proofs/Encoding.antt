@@ -56,6 +56,12 @@ unfolding encodePart field sizeOf bytesOf
 part-size (answer v m) = refl
 part-size (gap f l m) = refl
 
+-- a field has at least one byte
+pub size-pos : (p : Part) → 0 < sizeOf p
+unfolding sizeOf
+size-pos (answer v m) = omega arith
+size-pos (gap f l m) = omega arith
+
 -- the numbers of a part fit their fields
 pub record InRange (p : Part) : Type 0 where
   pub first : firstOf p < 256 ^ 4

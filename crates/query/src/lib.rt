@@ -50,8 +50,8 @@ fn outcome_of(end: End, allowance: u32) -> Outcome
     }
 }
 
-// A question that passes the first checks: the walk over all runs, with the whole allowance and empty buffers. Nothing is allocated: its positions and its keys are two rows with a place for each run, and two more such rows
-// are in use while the row of keys is made anew.
+// A question that passes the first checks: the walk over all runs, with the whole allowance, into buffers from their first place on. Nothing is allocated: its
+// positions and its keys are two rows with a place for each run, and two more such rows are in use while the row of keys is made anew.
 fn answer(
     numbers: &[u32],
     ends: &[u32],

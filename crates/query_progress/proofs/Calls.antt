@@ -16,14 +16,10 @@ use Rattle.model.proofs.Cutting.{Fitted, cut-fitted, cut-within, parts-bytes}
 use Rattle.model.proofs.Events.{parts-append, cost-append}
 use Rattle.model.proofs.Many.{Writing, answers-writing, bytes-writing, left-probes, walks-on, walks-stop, ending-on, ending-here, reached-on, reached-stop}
 use Rattle.walk_progress.specs.Progress.{Counts, noCounts, outcomeAt, ended, countsAfter, roomAt, finish, onward}
-use Rattle.walk_progress.proofs.Progress.{placed-on, placed-none, placed-one, placed-keeps}
+use Rattle.walk_progress.proofs.Progress.{counts-same, placed-on, placed-none, placed-keeps}
 use Rattle.query_progress.specs.Calls.{callOutcome, callEnded, callOnward}
 
 -- ---- the counts
-
-pub counts-same : {a a′ p p′ b b′ q q′ : ℕ} → a ≡ a′ → p ≡ p′ → b ≡ b′ → q ≡ q′
-    → _≡_ {A = Counts} (record { answers = a; parts = p; bytes = b; probes = q }) (record { answers = a′; parts = p′; bytes = b′; probes = q′ })
-counts-same e f g h i = record { answers = e i; parts = f i; bytes = g i; probes = h i }
 
 counts-none : (c : Counts) → countsAfter c [] ≡ c
 unfolding countsAfter partsOf answersOf encode probesOf cost

@@ -1,5 +1,5 @@
 -- The walk's first state stands, and where its rounds end the question does. Assumes nothing.
-use Prim.Native.Nat.{ℕ, _^_, _≤_, _<_}
+use Prim.Native.Nat.{ℕ, _^_, _<_}
 use lib.ListN.{length}
 use mathlib.Core.List.{List, map, List·Memᴰ}
 use mathlib.Core.Path.{_≡_, sym, ap, _∙_, subst}
@@ -13,8 +13,7 @@ use Rattle.model.proofs.Exact.{first-least}
 use Rattle.model.proofs.FirstChecks.{chosen-passed, runs-rising}
 use Rattle.model.proofs.Walking.{map-mem}
 use Rattle.walk_progress.specs.Progress.{onward}
-use Rattle.walk_progress.proofs.Ended.{Ends, onward-ends}
-use Rattle.walk_write.specs.Writes.{countsOf, goesOn, endsWith, Fitted}
+use Rattle.walk_write.specs.Writes.{countsOf, goesOn, Fitted}
 use Rattle.walk_settle.specs.Turns.{Stands, Chooses}
 use Rattle.walk_rounds.specs.Ends.{Finishes}
 use Rattle.walk_whole.specs.Whole.{Begins, countsFrom, ComesTo}
@@ -61,30 +60,13 @@ module _ (numbers ends : List ℕ) (m t : ℕ) (positions keys A B : List ℕ) (
     chosen-first : chosen m (runs numbers ends) ≡ chosenAt m numbers positions′ ends
     chosen-first = sym (ap (chosen m) (h .runs-are) ∙ standing-chosen m (runs numbers ends))
 
-    module _ (A′ B′ : List ℕ) (r : End) (f : Finishes (chosenAt m numbers positions′ ends) t (firstState start answered written left) A B A′ B′ r) where
-      comes-to : (allowance : ℕ) → left ≤ allowance
-          → onward allowance (countsFrom allowance answered written left) A B (wholeWalk t (chosen m (runs numbers ends)))
-          ≡ endsWith (r .number) allowance (r .at) A′ B′
-      unfolding goesOn countsOf countsFrom wholeWalk
-      comes-to allowance l =
-          (λ i. onward allowance (countsFrom allowance answered written left) A B (walk pastBin t (first-least i) (chosen-first i)))
-          ∙ f .comes-to allowance pastBin l (omega arith)
-
-      -- what stands in the buffers at the end
-      ends-in : Ends (countsFrom left answered written left) (countsOf left (r .at)) A′ B′
-      unfolding countsFrom endsWith
-      ends-in =
-          onward-ends left (countsFrom left answered written left) (countsOf left (r .at)) A B A′ B′ (wholeWalk t (chosen m (runs numbers ends))) (r .number)
-          (record { probes = omega arith; answered = b .answers-fit; written = b .bytes-fit }) (comes-to left (omega arith))
-
-      pub comes-first : ComesTo numbers ends m t answered written left A B A′ B′ r
-      unfolding countsOf countsFrom
-      comes-first =
-          let e = ends-in in
-          record {
-            left-then = f .left;
-            answers-then = e .answered;
-            bytes-then = e .written;
-            parts-then = let p = e .parts in omega arith;
-            as-asked = comes-to;
-          }
+    pub comes-first : (A′ B′ : List ℕ) (r : End) → Finishes (chosenAt m numbers positions′ ends) t (firstState start answered written left) A B A′ B′ r
+        → ComesTo numbers ends m t answered written left A B A′ B′ r
+    unfolding goesOn countsOf countsFrom wholeWalk
+    comes-first A′ B′ r f =
+        record {
+          left-then = f .left;
+          as-asked = λ allowance l.
+              (λ i. onward allowance (countsFrom allowance answered written left) A B (walk pastBin t (first-least i) (chosen-first i)))
+              ∙ f .comes-to allowance pastBin l (omega arith);
+        }

@@ -1,5 +1,5 @@
 -- The walk of a question over chosen runs from its beginning to its end, in buffers that hold what the questions before it wrote. Definitions only.
-use Prim.Native.Nat.{ℕ, _+_, _-_, _≤_}
+use Prim.Native.Nat.{ℕ, _-_, _≤_}
 use mathlib.Core.List.{List}
 use mathlib.Core.Path.{_≡_}
 use lib.ListN.{length}
@@ -22,13 +22,9 @@ pub record Begins (numbers ends : List ℕ) (m t : ℕ) (positions keys answers 
 unfoldable pub countsFrom : ℕ → ℕ → ℕ → ℕ → Counts
 countsFrom allowance answered written left = record { answers = answered; parts = 0; bytes = written; probes = allowance - left }
 
--- The walk ended so, and with these buffers, as the question does, of whatever allowance so much was left. What stands in the buffers then fits them, and no
--- more probes are left than before.
+-- The walk ended so, and with these buffers, as the question does, of whatever allowance so much was left.
 pub record ComesTo (numbers ends : List ℕ) (m t answered written left : ℕ) (answers certificate answers′ certificate′ : List ℕ) (r : End) : Type 0 where
   pub left-then : r .at .left ≤ left
-  pub answers-then : r .at .answers ≤ length answers′
-  pub bytes-then : r .at .bytes ≤ length certificate′
-  pub parts-then : written + r .at .parts ≤ r .at .bytes
   pub as-asked : (allowance : ℕ) → left ≤ allowance
       → onward allowance (countsFrom allowance answered written left) answers certificate (wholeWalk t (chosen m (runs numbers ends)))
       ≡ endsWith (r .number) allowance (r .at) answers′ certificate′

@@ -5,7 +5,7 @@ use mathlib.Core.Path.{_≡_, sym, _∙_}
 use native.Mathlib.Omega.{arith}
 use Rattle.check_part.specs.Tested.{Choice}
 use Rattle.field_read.specs.Reading.{partOf}
-use Rattle.model.proofs.Checking.{size-pos}
+use Rattle.model.proofs.Encoding.{size-pos}
 use Rattle.checker.proofs.Following.{Along, along-start, along-unreadable, along-refused, along-on, next-is, answers-few, along-valid, along-uncovered}
 use borrow.Author.Needs.{needs}
 use Rattle.checker.proofs.check_parts.Statement.{statement}
