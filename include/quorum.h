@@ -61,7 +61,7 @@ extern "C" {
 /**
  * Room that is always enough for n numbers: with so many answers and certificate
  * bytes refusals 5 and 6 never occur. (Proved: `room-enough`.) Many questions in
- * one call need at most this for each of them.
+ * one call need at most this for each of them. (Proved: `many-room-enough`.)
  */
 #define QUORUM_ENOUGH_ANSWERS(n) ((size_t)(n))
 #define QUORUM_ENOUGH_BYTES(n) (34 * (size_t)(n) + 19)
@@ -73,7 +73,8 @@ extern "C" {
  * An allowance of probes that is always enough: 2 * 1048576 * 21. With it, or any
  * larger one, refusal 7 never occurs. (Proved: `always-enough`.) For n numbers in
  * all, b being the binary digits of n, 2 * n * b is enough too (`numbers-enough`).
- * Many questions in one call need at most this for each of them.
+ * Many questions in one call need at most this for each of them. (Proved:
+ * `many-always-enough`.)
  */
 #define QUORUM_ENOUGH_PROBES 44040192u
 
@@ -231,7 +232,7 @@ void quorum_query(const uint32_t *numbers, size_t numbers_len,
  * refusals are 0. After 5 to 7 what was written before stands. Later places of the
  * three rows are unchanged, also of an accepted call. No questions are accepted.
  *
- * The allowance is for all questions together, and no question fills it up again:
+ * The allowance is for all questions together, and is never refilled:
  * QUORUM_ENOUGH_PROBES for each question is always enough (for more than 97 of
  * them that is more than 32 bits hold), and so is the sum over the questions of
  * quorum_probe_bound_chosen() for the parts of any true certificate.

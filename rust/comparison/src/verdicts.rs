@@ -1,10 +1,11 @@
 //! Certificates checked on both sides, with and without a mask.
 
-use crate::certificates::{compare_parts, Task};
+use crate::certificates::{compare_parts, damage_bytes, Task};
 use crate::question::Question;
+use crate::shapes::any_runs;
 use quorum::{Checked, Refusal};
-use reference::testing::lay_out;
-use reference::{all_runs, decode, is_true_chosen, trace_chosen, Part, Verdict};
+use reference::testing::{lay_out, slices, Random};
+use reference::{all_runs, decode, encode, is_true_chosen, trace_chosen, Part, Verdict};
 
 /// How many certificates were seen with each verdict; 0 stands for true.
 #[derive(Default)]
@@ -96,6 +97,27 @@ impl Seen {
         number
     }
 
+    /// Compares a true certificate, and what it becomes with parts or bytes
+    /// damaged.
+    fn compare_damaged(&mut self, seed: u64, random: &mut Random, task: Task, parts: &[Part]) {
+        let mut bytes = encode(parts);
+        assert_eq!(self.compare_with_truth(seed, task, &bytes), 0);
+        for _ in 0..2 {
+            let mut parts = parts.to_vec();
+            for _ in 0..random.pick(&[1, 1, 2]) {
+                task.damage_parts(random, &mut parts);
+            }
+            let mut damaged = encode(&parts);
+            self.compare_with_truth(seed, task, &damaged);
+            if random.one_in(3) {
+                damage_bytes(random, &mut damaged);
+                self.compare_with_truth(seed, task, &damaged);
+            }
+        }
+        damage_bytes(random, &mut bytes);
+        self.compare_with_truth(seed, task, &bytes);
+    }
+
     fn count(&mut self, row: [u64; 4]) -> u64 {
         self.0[row[0] as usize] += 1;
         row[0]
@@ -136,6 +158,40 @@ fn compare_read(
     if matches!(number, 0 | Refusal::BAD_FIELD) {
         assert_eq!(read, result, "{}", context());
     }
+}
+
+/// For random runs, of which `choose` chooses some or all: the walk's own
+/// certificate, other true ones, and each of them damaged.
+pub fn compare_random(
+    choose: fn(&mut Random, usize) -> u64,
+    seeds: impl Iterator<Item = u64>,
+    runs: [usize; 2],
+    length: usize,
+) -> Seen {
+    let mut seen = Seen::default();
+    for seed in seeds {
+        let mut random = Random(seed);
+        let k = random.from_to(runs[0], runs[1]);
+        let length = random.below(length + 1);
+        let runs = any_runs(&mut random, k, length);
+        let runs = slices(&runs);
+        let chosen = choose(&mut random, k);
+        let task = Task {
+            runs: &runs,
+            chosen,
+            threshold: random.from_to(1, chosen.count_ones() as usize) as u32,
+        };
+        let own = walks_own(task);
+        let mut rewritten = own.clone();
+        for _ in 0..random.from_to(1, 6) {
+            task.rewrite(&mut random, &mut rewritten);
+        }
+        let any = task.any_true(&mut random);
+        for parts in [own, rewritten, any] {
+            seen.compare_damaged(seed, &mut random, task, &parts);
+        }
+    }
+    seen
 }
 
 /// The parts of the walk's own certificate.

@@ -5,10 +5,10 @@ use comparison::certificates::{damage_bytes, Task};
 use comparison::question::Question;
 use comparison::seeds;
 use comparison::shapes::{any_runs, shaped_runs, Shape, SHAPES};
-use comparison::verdicts::{walks_own, Seen};
+use comparison::verdicts::{self, walks_own, Seen};
 use quorum::Refusal;
 use reference::testing::{checked_instances, gap, hit, lay_out, slices, Random, M, THREE_RUNS};
-use reference::{encode, trace};
+use reference::{all_runs, encode, trace};
 
 /// The instances of docs/SPECIFICATION.md.
 #[test]
@@ -24,44 +24,9 @@ fn every_instance() {
     seen.met(&[0, 8, 9, 10, 11], 1);
 }
 
-/// For random runs: the walk's own certificate, other true ones, and each of
-/// them damaged.
+/// With all runs chosen.
 fn compare_random(group: u64, cases: u64, runs: [usize; 2], length: usize) -> Seen {
-    let mut seen = Seen::default();
-    for seed in seeds(group, cases) {
-        let mut random = Random(seed);
-        let k = random.from_to(runs[0], runs[1]);
-        let length = random.below(length + 1);
-        let runs = any_runs(&mut random, k, length);
-        let runs = slices(&runs);
-        let task = Task::of_all(&runs, random.from_to(1, k) as u32);
-        let own = walks_own(task);
-        let mut rewritten = own.clone();
-        for _ in 0..random.from_to(1, 6) {
-            task.rewrite(&mut random, &mut rewritten);
-        }
-        let any = task.any_true(&mut random);
-        for parts in [own, rewritten, any] {
-            let bytes = encode(&parts);
-            assert_eq!(seen.compare_with_truth(seed, task, &bytes), 0);
-            for _ in 0..2 {
-                let mut parts = parts.clone();
-                for _ in 0..random.pick(&[1, 1, 2]) {
-                    task.damage_parts(&mut random, &mut parts);
-                }
-                let mut damaged = encode(&parts);
-                seen.compare_with_truth(seed, task, &damaged);
-                if random.one_in(3) {
-                    damage_bytes(&mut random, &mut damaged);
-                    seen.compare_with_truth(seed, task, &damaged);
-                }
-            }
-            let mut damaged = bytes;
-            damage_bytes(&mut random, &mut damaged);
-            seen.compare_with_truth(seed, task, &damaged);
-        }
-    }
-    seen
+    verdicts::compare_random(|_, k| all_runs(k), seeds(group, cases), runs, length)
 }
 
 #[test]

@@ -7,7 +7,7 @@ use comparison::many::any_choice;
 use comparison::question::Question;
 use comparison::seeds;
 use comparison::shapes::any_runs;
-use comparison::verdicts::{walks_own, Seen};
+use comparison::verdicts::{self, walks_own, Seen};
 use reference::testing::{
     chosen_instances, gap, hit, lay_out, slices, Random, FIRST_TWO_PARTS, M, THREE_RUNS,
 };
@@ -33,44 +33,9 @@ fn every_instance() {
     seen.met(&[0, 2, 9, 10, 11, 13], 1);
 }
 
-/// For random runs and choices: the walk's own certificate, other true ones, and
-/// each of them damaged.
+/// With some runs chosen.
 fn compare_random(group: u64, cases: u64, runs: [usize; 2], length: usize) -> Seen {
-    let mut seen = Seen::default();
-    for seed in seeds(group, cases) {
-        let mut random = Random(seed);
-        let k = random.from_to(runs[0], runs[1]);
-        let length = random.below(length + 1);
-        let runs = any_runs(&mut random, k, length);
-        let runs = slices(&runs);
-        let chosen = any_choice(&mut random, k);
-        let task = Task {
-            runs: &runs,
-            chosen,
-            threshold: random.from_to(1, chosen.count_ones() as usize) as u32,
-        };
-        let own = walks_own(task);
-        let mut rewritten = own.clone();
-        for _ in 0..random.from_to(1, 6) {
-            task.rewrite(&mut random, &mut rewritten);
-        }
-        let any = task.any_true(&mut random);
-        for parts in [own, rewritten, any] {
-            let bytes = encode(&parts);
-            assert_eq!(seen.compare_with_truth(seed, task, &bytes), 0);
-            for _ in 0..2 {
-                let mut parts = parts.clone();
-                for _ in 0..random.pick(&[1, 1, 2]) {
-                    task.damage_parts(&mut random, &mut parts);
-                }
-                seen.compare_with_truth(seed, task, &encode(&parts));
-            }
-            let mut damaged = bytes;
-            damage_bytes(&mut random, &mut damaged);
-            seen.compare_with_truth(seed, task, &damaged);
-        }
-    }
-    seen
+    verdicts::compare_random(any_choice, seeds(group, cases), runs, length)
 }
 
 #[test]
