@@ -1,7 +1,7 @@
 //! The checker: true certificates of every form and damaged ones.
 
 use comparison::broken::{any_threshold, break_rows};
-use comparison::certificates::{damage_bytes, Task};
+use comparison::certificates::Task;
 use comparison::question::Question;
 use comparison::seeds;
 use comparison::shapes::{any_runs, shaped_runs, Shape, SHAPES};

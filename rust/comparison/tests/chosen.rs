@@ -2,7 +2,7 @@
 //! damaged ones, and masks that choose wrong.
 
 use comparison::broken::{any_threshold, break_rows};
-use comparison::certificates::{damage_bytes, Task};
+use comparison::certificates::Task;
 use comparison::many::any_choice;
 use comparison::question::Question;
 use comparison::seeds;
