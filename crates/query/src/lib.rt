@@ -50,8 +50,7 @@ fn outcome_of(end: End, allowance: u32) -> Outcome
     }
 }
 
-// A question that passes the first checks: the walk over all runs, with the whole allowance, into buffers from their first place on. Nothing is allocated: its
-// positions and its keys are two rows with a place for each run, and two more such rows are in use while the row of keys is made anew.
+// A question that passes the first checks: the walk over all runs, with the whole allowance, into buffers from their first place on.
 fn answer(
     numbers: &[u32],
     ends: &[u32],
@@ -63,16 +62,11 @@ fn answer(
     requires { ⌜ firstChecks (now numbers) (now ends) threshold ≡ passed ⌝ }
     ensures { λ r. ⌜ Returns (query (now (numbers .entry)) (now (ends .entry)) threshold allowance (now (answers .entry)) (now (certificate .entry))) (outcomeIs r) (now (answers .exit)) (now (certificate .exit)) ⌝ }
 {
-    let mut positions = [0u32; limits::MOST_RUNS];
-    let mut keys = [0u64; limits::MOST_RUNS];
-    let k = ends.len();
-    let end = walk_whole::whole_walk(
+    let end = walk_whole::question_walk(
         numbers,
         ends,
-        mask::all_runs(k),
+        mask::all_runs(ends.len()),
         threshold,
-        &mut positions[0..k],
-        &mut keys[0..k],
         answers,
         certificate,
         0,

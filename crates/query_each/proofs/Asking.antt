@@ -17,7 +17,7 @@ use Rattle.walk_progress.specs.Progress.{Counts}
 use Rattle.walk_rounds.specs.declared.End.{End}
 use Rattle.walk_whole.specs.Whole.{countsFrom, ComesTo}
 use Rattle.walk_write.specs.Writes.{countsOf, endsWith}
-use Rattle.query_each.specs.Questions.{countsSo, Fitted, Ready, Rows, fromQuestion, endOf, Asks, Answers}
+use Rattle.query_each.specs.Questions.{countsSo, Fitted, Rows, fromQuestion, endOf, Asks, Answers}
 use Rattle.query_each.specs.declared.Finish.{Finish}
 use Rattle.query_each.specs.declared.Totals.{Totals}
 
@@ -91,25 +91,25 @@ module _ (numbers ends : List ℕ) (m u t q : ℕ) (w : Totals) (A B R A′ B′
 
 -- ---- the questions before index q are asked
 
-pub record Asked (numbers ends masks thresholds : List ℕ) (w₀ : Totals) (A₀ B₀ R₀ positions keys A B R : List ℕ) (w : Totals) (q : ℕ) : Type 0 where
-  pub ready : Ready ends positions keys A B w
+pub record Asked (numbers ends masks thresholds : List ℕ) (w₀ : Totals) (A₀ B₀ R₀ A B R : List ℕ) (w : Totals) (q : ℕ) : Type 0 where
+  pub fitted : Fitted A B w
   pub rows : Rows numbers ends masks thresholds R
   pub bound : q ≤ length masks
   pub left : w .left ≤ w₀ .left
   pub same : (allowance : ℕ) → w₀ .left ≤ allowance
       → fromQuestion allowance numbers ends masks thresholds 0 w₀ A₀ B₀ R₀ ≡ fromQuestion allowance numbers ends masks thresholds q w A B R
 
-pub asked-none : (numbers ends masks thresholds : List ℕ) (w : Totals) (A B R positions keys : List ℕ) → Ready ends positions keys A B w
-    → Rows numbers ends masks thresholds R → Asked numbers ends masks thresholds w A B R positions keys A B R w 0
-asked-none numbers ends masks thresholds w A B R positions keys r s =
-    record { ready = r; rows = s; bound = omega arith; left = omega arith; same = λ allowance h. refl }
+pub asked-none : (numbers ends masks thresholds : List ℕ) (w : Totals) (A B R : List ℕ) → Fitted A B w
+    → Rows numbers ends masks thresholds R → Asked numbers ends masks thresholds w A B R A B R w 0
+asked-none numbers ends masks thresholds w A B R r s =
+    record { fitted = r; rows = s; bound = omega arith; left = omega arith; same = λ allowance h. refl }
 
 end-stopped : (r : Finish) (n : ℕ) → r .number ≡ suc n → refusal-in (r .question) (r .number) (r .place) ≡ endOf r
 unfolding endOf
 end-stopped r n e = rw (e, endOf)
 
-module _ (numbers ends masks thresholds : List ℕ) (w₀ : Totals) (A₀ B₀ R₀ positions keys A B R : List ℕ) (w : Totals) (q : ℕ)
-    (h : Asked numbers ends masks thresholds w₀ A₀ B₀ R₀ positions keys A B R w q) where
+module _ (numbers ends masks thresholds : List ℕ) (w₀ : Totals) (A₀ B₀ R₀ A B R : List ℕ) (w : Totals) (q : ℕ)
+    (h : Asked numbers ends masks thresholds w₀ A₀ B₀ R₀ A B R w q) where
   -- the questions from this one on
   from-here : q < length masks → (allowance : ℕ)
       → fromQuestion allowance numbers ends masks thresholds q w A B R
@@ -119,19 +119,17 @@ module _ (numbers ends masks thresholds : List ℕ) (w₀ : Totals) (A₀ B₀ R
       let r = h .rows .rows in
       λ i. callOnward allowance q (countsSo allowance w) A B R (runs numbers ends) (drop-cons masks q 0 l i) (drop-cons thresholds q 0 (omega arith) i)
 
-  pub asked-more : (positions′ keys′ A′ B′ R′ : List ℕ) (r : Finish) → q < length masks
+  pub asked-more : (A′ B′ R′ : List ℕ) (r : Finish) → q < length masks
       → Asks numbers ends (getD masks q 0) (getD thresholds q 0) q w A B R A′ B′ R′ r → r .number ≡ 0
-      → length positions′ ≡ length positions → length keys′ ≡ length keys → length R′ ≡ length R
-      → Asked numbers ends masks thresholds w₀ A₀ B₀ R₀ positions′ keys′ A′ B′ R′ (r .at) (q + 1)
+      → length R′ ≡ length R → Asked numbers ends masks thresholds w₀ A₀ B₀ R₀ A′ B′ R′ (r .at) (q + 1)
   unfolding fromQuestion
-  asked-more positions′ keys′ A′ B′ R′ r l a z e f g =
-      let k = h .ready in
+  asked-more A′ B′ R′ r l a z g =
       let m = h .left in
       let n = a .left in
       let o = h .rows .room in
       let i : suc q ≡ q + 1 = omega arith in
       record {
-        ready = record { positions-size = e ∙ k .positions-size; keys-size = f ∙ k .keys-size; fitted = a .fitted };
+        fitted = a .fitted;
         rows = record { checked = h .rows .checked; rows = h .rows .rows; room = omega arith };
         bound = omega arith;
         left = omega arith;

@@ -21,12 +21,6 @@ pub record Fitted (A B : List ℕ) (w : Totals) : Type 0 where
   pub written : w .bytes ≤ length B
   pub parts : w .parts ≤ w .bytes
 
--- rows for the walks, and what is written so far
-pub record Ready (ends positions keys A B : List ℕ) (w : Totals) : Type 0 where
-  pub positions-size : length positions ≡ length ends
-  pub keys-size : length keys ≡ length ends
-  pub fitted : Fitted A B w
-
 -- questions that passed the first checks
 pub record Rows (numbers ends masks thresholds R : List ℕ) : Type 0 where
   pub checked : (q : ℕ) → q < length masks → chosenChecks numbers ends (getD masks q 0) (getD thresholds q 0) ≡ passed

@@ -4,7 +4,7 @@ ghost use mathlib.Core.List.{_∷_, []};
 ghost use Prim.Native.Nat.{_+_, _*_, _≤_};
 ghost use lib.ListN.{length};
 ghost use Rattle.field_write.specs.Stored.{placed};
-ghost use Rattle.query_each.specs.Questions.{Ready, Rows, Asks, Answers};
+ghost use Rattle.query_each.specs.Questions.{Fitted, Rows, Asks, Answers};
 ghost use Rattle.model.specs.Refusals.{passed, chosenChecks};
 use walk_rounds::End;
 
@@ -41,23 +41,19 @@ fn question(
     chosen: u64,
     threshold: u32,
     q: usize,
-    positions: &mut [u32],
-    keys: &mut [u64],
     answers: &mut [u32],
     certificate: &mut [u8],
     results: &mut [u64],
     totals: Totals,
 ) -> Finish
-    requires { ⌜ Ready (now ends) (now positions) (now keys) (now answers) (now certificate) totals × (chosenChecks (now numbers) (now ends) chosen threshold ≡ passed) × (2 * q + 2 ≤ length (now results)) ⌝ }
+    requires { ⌜ Fitted (now answers) (now certificate) totals × (chosenChecks (now numbers) (now ends) chosen threshold ≡ passed) × (2 * q + 2 ≤ length (now results)) ⌝ }
     ensures { λ r. ⌜ Asks (now (numbers .entry)) (now (ends .entry)) chosen threshold q totals (now (answers .entry)) (now (certificate .entry)) (now (results .entry)) (now (answers .exit)) (now (certificate .exit)) (now (results .exit)) r ⌝ }
 {
-    let end = walk_whole::whole_walk(
+    let end = walk_whole::question_walk(
         numbers,
         ends,
         chosen,
         arith::usize_of_u32(threshold),
-        positions,
-        keys,
         answers,
         certificate,
         totals.answers,
@@ -94,14 +90,12 @@ pub fn each_question(
     ends: &[u32],
     masks: &[u64],
     thresholds: &[u32],
-    positions: &mut [u32],
-    keys: &mut [u64],
     answers: &mut [u32],
     certificate: &mut [u8],
     results: &mut [u64],
     totals: Totals,
 ) -> Finish
-    requires { ⌜ Ready (now ends) (now positions) (now keys) (now answers) (now certificate) totals × Rows (now numbers) (now ends) (now masks) (now thresholds) (now results) ⌝ }
+    requires { ⌜ Fitted (now answers) (now certificate) totals × Rows (now numbers) (now ends) (now masks) (now thresholds) (now results) ⌝ }
     ensures { λ r. ⌜ Answers (now (numbers .entry)) (now (ends .entry)) (now (masks .entry)) (now (thresholds .entry)) totals (now (answers .entry)) (now (certificate .entry)) (now (results .entry)) (now (answers .exit)) (now (certificate .exit)) (now (results .exit)) r ⌝ }
 {
     let mut w = totals;
@@ -113,8 +107,6 @@ pub fn each_question(
             masks[q],
             thresholds[q],
             q,
-            positions,
-            keys,
             answers,
             certificate,
             results,

@@ -14,7 +14,7 @@ use Rattle.model.specs.Refusals.{over}
 use Rattle.model.specs.Runs.{pastBin, runs}
 use Rattle.model.proofs.ManyChecks.{many-passed}
 use Rattle.model.proofs.ManyDemands.{many-demand2, many-demand3}
-use Rattle.query_each.specs.Questions.{countsSo, Ready, Rows, fromQuestion, endOf, Answers}
+use Rattle.query_each.specs.Questions.{countsSo, Fitted, Rows, fromQuestion, endOf, Answers}
 use Rattle.query_each.specs.declared.Finish.{Finish}
 use Rattle.query_each.specs.declared.Totals.{Totals}
 use Rattle.query_progress.specs.Calls.{callOutcome, callEnded, callOnward}
@@ -40,10 +40,8 @@ ended-refused r c h = go (r .number) refl
     go zero e = absurd (h e)
     go (suc n) e = rw (e, endOf)
 
-pub ready-first : (ends : List ℕ) (allowance : ℕ) (A B positions keys : List ℕ) → length positions ≡ length ends → length keys ≡ length ends
-    → Ready ends positions keys A B (none allowance)
-ready-first ends allowance A B positions keys f g =
-    record { positions-size = f; keys-size = g; fitted = record { answered = omega arith; written = omega arith; parts = omega arith } }
+pub fitted-first : (allowance : ℕ) (A B : List ℕ) → Fitted A B (none allowance)
+fitted-first allowance A B = record { answered = omega arith; written = omega arith; parts = omega arith }
 
 pub rows-first : (numbers ends masks thresholds R : List ℕ) → manyChecks numbers ends masks thresholds R ≡ all-passed → Rows numbers ends masks thresholds R
 rows-first numbers ends masks thresholds R e =

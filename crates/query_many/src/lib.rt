@@ -56,7 +56,7 @@ fn outcome_of(end: Finish, allowance: u32) -> ManyOutcome
     }
 }
 
-// A call that passes the first checks. Nothing is allocated: the positions and the keys are two rows with a place for each run, which every question uses anew.
+// A call that passes the first checks.
 fn answer_all(
     numbers: &[u32],
     ends: &[u32],
@@ -70,16 +70,11 @@ fn answer_all(
     requires { ⌜ manyChecks (now numbers) (now ends) (now masks) (now thresholds) (now results) ≡ all-passed ⌝ }
     ensures { λ r. ⌜ ReturnsMany (queryMany (now (numbers .entry)) (now (ends .entry)) (now (masks .entry)) (now (thresholds .entry)) allowance (now (answers .entry)) (now (certificate .entry)) (now (results .entry))) (manyOutcomeIs r) (now (answers .exit)) (now (certificate .exit)) (now (results .exit)) ⌝ }
 {
-    let mut positions = [0u32; limits::MOST_RUNS];
-    let mut keys = [0u64; limits::MOST_RUNS];
-    let k = ends.len();
     let end = query_each::each_question(
         numbers,
         ends,
         masks,
         thresholds,
-        &mut positions[0..k],
-        &mut keys[0..k],
         answers,
         certificate,
         results,

@@ -31,20 +31,20 @@ firstState start answered written left = record { floor = 0; start = start; answ
 module _ (numbers ends : List ℕ) (m t : ℕ) (positions keys A B : List ℕ) (answered written : ℕ) (b : Begins numbers ends m t positions keys A B answered written) where
   pub begin-ready : BeginReady numbers ends positions × (m < 2 ^ length ends) × (length keys ≡ length ends)
   begin-ready =
-      let p = chosen-passed numbers ends m t (b .checked) in
+      let p = chosen-passed numbers ends m t (b .asked .checked) in
       (record { few = p .few-runs; rise = p .lists .ends-rise; last = p .lists .ends-last; size = b .positions-size }, p .only, b .keys-size)
 
   module _ (fits : Fits pastBin numbers) (positions′ keys′ : List ℕ) (start left : ℕ) (h : Holds numbers ends positions′ keys′ start (map (standing m) (runs numbers ends))) where
     rising : (r : Run) → List·Memᴰ r (runsAt 0 numbers positions′ ends) → Rise 0 (r .bins)
     rising r i =
-        let p = chosen-passed numbers ends m t (b .checked) in
+        let p = chosen-passed numbers ends m t (b .asked .checked) in
         let q = map-mem (standing m) (runs numbers ends) r (subst (λ x. List·Memᴰ r x) (h .runs-are) i) in
         subst (λ (x : Run). Rise 0 (x .bins)) (sym (q .2)) (standing-rises m 0 (q .0) (runs-rising numbers ends fits (p .lists) .each (q .0) (q .1)))
 
     pub stands-first : Stands numbers ends positions′ keys′ t (firstState start answered written left) × Chooses m numbers ends positions′ t
         × Fitted A B (firstState start answered written left)
     stands-first =
-        let p = chosen-passed numbers ends m t (b .checked) in (
+        let p = chosen-passed numbers ends m t (b .asked .checked) in (
           record {
             few = p .few-runs;
             some = p .threshold;
@@ -53,7 +53,7 @@ module _ (numbers ends : List ℕ) (m t : ℕ) (positions keys A B : List ℕ) (
             bin = let e = past-is in omega arith;
           },
           record { only = p .only; enough = p .met; idle = subst (λ x. Idle m x) (sym (h .runs-are)) (standing-idle m (runs numbers ends)) },
-          record { answered = b .answers-fit; written = b .bytes-fit; parts = omega arith },
+          record { answered = b .asked .answers-fit; written = b .asked .bytes-fit; parts = omega arith },
         )
 
     -- the chosen runs are at their first numbers

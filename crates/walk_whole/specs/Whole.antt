@@ -10,13 +10,17 @@ use Rattle.walk_progress.specs.Progress.{Counts, onward}
 use Rattle.walk_rounds.specs.declared.End.{End}
 use Rattle.walk_write.specs.Writes.{endsWith}
 
--- a question that passed the first checks, with rows for its walk, and buffers in which so many answers and bytes stand
-pub record Begins (numbers ends : List ℕ) (m t : ℕ) (positions keys answers certificate : List ℕ) (answered written : ℕ) : Type 0 where
+-- a question that passed the first checks, and buffers in which so many answers and bytes stand
+pub record Asked (numbers ends : List ℕ) (m t : ℕ) (answers certificate : List ℕ) (answered written : ℕ) : Type 0 where
   pub checked : chosenChecks numbers ends m t ≡ passed
-  pub positions-size : length positions ≡ length ends
-  pub keys-size : length keys ≡ length ends
   pub answers-fit : answered ≤ length answers
   pub bytes-fit : written ≤ length certificate
+
+-- the same with rows for its walk
+pub record Begins (numbers ends : List ℕ) (m t : ℕ) (positions keys answers certificate : List ℕ) (answered written : ℕ) : Type 0 where
+  pub asked : Asked numbers ends m t answers certificate answered written
+  pub positions-size : length positions ≡ length ends
+  pub keys-size : length keys ≡ length ends
 
 -- the counts where it begins, so much of the allowance being left: its parts are counted from 0
 unfoldable pub countsFrom : ℕ → ℕ → ℕ → ℕ → Counts

@@ -12,23 +12,20 @@ use Rattle.query_each.proofs.each_question.Statement.{statement}
 use Rattle.query_each.proofs.each_question.Tie as tie
 
 abbrev Inv-loop : tie.InvT-loop
-Inv-loop numbers ends masks thresholds positions₀ keys₀ answers₀ certificate₀ results₀ w₀ q₀ positions keys answers certificate results w q =
-    Asked numbers ends masks thresholds w₀ answers₀ certificate₀ results₀ positions keys answers certificate results w q
-    × (length positions ≡ length positions₀) × (length keys ≡ length keys₀) × (length answers ≡ length answers₀) × (length certificate ≡ length certificate₀)
-    × (length results ≡ length results₀)
+Inv-loop numbers ends masks thresholds answers₀ certificate₀ results₀ w₀ q₀ answers certificate results w q =
+    Asked numbers ends masks thresholds w₀ answers₀ certificate₀ results₀ answers certificate results w q
+    × (length answers ≡ length answers₀) × (length certificate ≡ length certificate₀) × (length results ≡ length results₀)
 
 abbrev μ-loop : tie.MeasureT-loop
-μ-loop numbers ends masks thresholds positions₀ keys₀ answers₀ certificate₀ results₀ w₀ q₀ positions keys answers certificate results w q =
+μ-loop numbers ends masks thresholds answers₀ certificate₀ results₀ w₀ q₀ answers certificate results w q =
     length masks - q
 
 loop-holds : tie.Need-loop-holds Inv-loop μ-loop
 loop-holds c =
-    let s = c .before .before .before .before .before .before .before .before .before in
+    let s = c .before .before .before .before .before .before .before in
     let a = s .args in (
       asked-none (a .numbers .now) (a .ends .now) (a .masks .now) (a .thresholds .now) (a .totals) (a .answers .now) (a .certificate .now) (a .results .now)
-          (a .positions .now) (a .keys .now) (s .pre .0) (s .pre .1),
-      refl,
-      refl,
+          (s .pre .0) (s .pre .1),
       refl,
       refl,
       refl,
@@ -48,79 +45,65 @@ shared-slice-read-question-2 c = let r = c .before .before .before .loop .inv .0
 
 question-requires : tie.Need-question-requires Inv-loop μ-loop
 question-requires c κs =
-    let i = c .before .before .before .before .before .before .before .before .loop .inv .0 in
-    let t = c .before .before .before .before .before .before .before .loop-test .taken in
+    let i = c .before .before .before .before .before .before .loop .inv .0 in
+    let t = c .before .before .before .before .before .loop-test .taken in
     let r = i .rows .room in
-    (i .ready, i .rows .checked _ t, omega arith)
+    (i .fitted, i .rows .checked _ t, omega arith)
 
 -- a row's length after the question
-kept : (c : tie.After-question Inv-loop μ-loop) → (let l = c .before .before .before .before .before .before .before .before .before in let u = c .question in
-    (length (u .last .1 .1 .1 .1 .1 .0) ≡ length (l .loop .positions)) × (length (u .last .1 .1 .1 .1 .1 .1 .0) ≡ length (l .loop .keys)) × (length (u .last .1 .1 .1 .1 .1 .1 .1 .0) ≡ length (l .loop .answers))
-    × (length (u .last .1 .1 .1 .1 .1 .1 .1 .1 .0) ≡ length (l .loop .certificate)) × (length (u .last .1 .1 .1 .1 .1 .1 .1 .1 .1 .0) ≡ length (l .loop .results)))
-kept c = let k = c .question .kept in (k .1 .1 .1 .1 .1 .0, k .1 .1 .1 .1 .1 .1 .0, k .1 .1 .1 .1 .1 .1 .1 .0, k .1 .1 .1 .1 .1 .1 .1 .1 .0, k .1 .1 .1 .1 .1 .1 .1 .1 .1 .0)
+kept : (c : tie.After-question Inv-loop μ-loop) → (let l = c .before .before .before .before .before .before .before in let u = c .question in
+    (length (u .last .1 .1 .1 .1 .1 .0) ≡ length (l .loop .answers)) × (length (u .last .1 .1 .1 .1 .1 .1 .0) ≡ length (l .loop .certificate))
+    × (length (u .last .1 .1 .1 .1 .1 .1 .1 .0) ≡ length (l .loop .results)))
+kept c = let k = c .question .kept in (k .1 .1 .1 .1 .1 .0, k .1 .1 .1 .1 .1 .1 .0, k .1 .1 .1 .1 .1 .1 .1 .0)
 
 same-length : tie.Need-same-length Inv-loop μ-loop
-same-length c = kept (c .before .before .before .before .before .before .before .before .before .before .before .before) .0 ∙ c .before .before .before .before .before .before .before .before .before .before .before .before .before .before .before .before .before .before .before .before .before .loop .inv .1
+same-length c = kept (c .before .before .before .before .before .before .before .before) .0 ∙ c .before .before .before .before .before .before .before .before .before .before .before .before .before .before .before .loop .inv .1
 
 same-length-2 : tie.Need-same-length-2 Inv-loop μ-loop
-same-length-2 c = kept (c .before .before .before .before .before .before .before .before .before .before .before .before) .1 ∙ c .before .before .before .before .before .before .before .before .before .before .before .before .before .before .before .before .before .before .before .before .before .loop .inv .2
+same-length-2 c = kept (c .before .before .before .before .before .before .before .before) .1 ∙ c .before .before .before .before .before .before .before .before .before .before .before .before .before .before .before .loop .inv .2
 
 same-length-3 : tie.Need-same-length-3 Inv-loop μ-loop
-same-length-3 c = kept (c .before .before .before .before .before .before .before .before .before .before .before .before) .2 ∙ c .before .before .before .before .before .before .before .before .before .before .before .before .before .before .before .before .before .before .before .before .before .loop .inv .3
-
-same-length-4 : tie.Need-same-length-4 Inv-loop μ-loop
-same-length-4 c = kept (c .before .before .before .before .before .before .before .before .before .before .before .before) .3 ∙ c .before .before .before .before .before .before .before .before .before .before .before .before .before .before .before .before .before .before .before .before .before .loop .inv .4
-
-same-length-5 : tie.Need-same-length-5 Inv-loop μ-loop
-same-length-5 c = kept (c .before .before .before .before .before .before .before .before .before .before .before .before) .4 ∙ c .before .before .before .before .before .before .before .before .before .before .before .before .before .before .before .before .before .before .before .before .before .loop .inv .5
+same-length-3 c = kept (c .before .before .before .before .before .before .before .before) .2 ∙ c .before .before .before .before .before .before .before .before .before .before .before .before .before .before .before .loop .inv .3
 
 returns : tie.Need-returns Inv-loop μ-loop
 returns c =
-    let l = c .before .before .before .before .before .before .before .before .before .before .before .before .before .before .before .before .before .before .before .before .before in
-    let u = c .before .before .before .before .before .before .before .before .before .before .before .before .question in
-    asked-stopped _ _ _ _ _ _ _ _ _ _ _ _ _ _ _ (l .loop .inv .0) (u .last .1 .1 .1 .1 .1 .1 .1 .0) (u .last .1 .1 .1 .1 .1 .1 .1 .1 .0) (u .last .1 .1 .1 .1 .1 .1 .1 .1 .1 .0) (u .result) (c .before .before .before .before .before .before .before .before .before .before .before .before .before .before .before .before .before .before .before .before .loop-test .taken) (u .ensures) (c .if1 .taken)
+    let l = c .before .before .before .before .before .before .before .before .before .before .before .before .before .before .before in
+    let u = c .before .before .before .before .before .before .before .before .question in
+    asked-stopped _ _ _ _ _ _ _ _ _ _ _ _ _ (l .loop .inv .0) (u .last .1 .1 .1 .1 .1 .0) (u .last .1 .1 .1 .1 .1 .1 .0) (u .last .1 .1 .1 .1 .1 .1 .1 .0) (u .result) (c .before .before .before .before .before .before .before .before .before .before .before .before .before .before .loop-test .taken) (u .ensures) (c .if1 .taken)
 
 -- eight bytes for each question fit a word, so their number does
 next-index : (q : ℕ) → Fits w64 (q * 8) → Fits w64 (q + 1)
 next-index q f = record { fits = omega (arith, f .fits) }
 
 add-q : tie.Need-add-q Inv-loop μ-loop
-add-q c = next-index (c .before .before .before .before .before .before .before .before .before .before .before .before .before .before .before .before .before .before .before .before .before .before .loop .q) (mul-question (c .before .before .before .before .before .before .before .before .before .before .before .before .before .before .before .before .before .before .before .before .before))
+add-q c = next-index (c .before .before .before .before .before .before .before .before .before .before .before .before .before .before .before .before .loop .q) (mul-question (c .before .before .before .before .before .before .before .before .before .before .before .before .before .before .before))
 
 loop-less : tie.Need-loop-less Inv-loop μ-loop
-loop-less c = let t = c .before .before .before .before .before .before .before .before .before .before .before .before .before .before .before .before .before .before .before .before .before .loop-test .taken in omega arith
+loop-less c = let t = c .before .before .before .before .before .before .before .before .before .before .before .before .before .before .before .loop-test .taken in omega arith
 
 loop-again : tie.Need-loop-again Inv-loop μ-loop
 loop-again c =
-    let l = c .before .before .before .before .before .before .before .before .before .before .before .before .before .before .before .before .before .before .before .before .before .before in
-    let u = c .before .before .before .before .before .before .before .before .before .before .before .before .before .question in
-    let k = kept (c .before .before .before .before .before .before .before .before .before .before .before .before .before) in (
-      asked-more _ _ _ _ _ _ _ _ _ _ _ _ _ _ _ (l .loop .inv .0) (u .last .1 .1 .1 .1 .1 .0) (u .last .1 .1 .1 .1 .1 .1 .0) (u .last .1 .1 .1 .1 .1 .1 .1 .0) (u .last .1 .1 .1 .1 .1 .1 .1 .1 .0) (u .last .1 .1 .1 .1 .1 .1 .1 .1 .1 .0) (u .result)
-          (c .before .before .before .before .before .before .before .before .before .before .before .before .before .before .before .before .before .before .before .before .before .loop-test .taken) (u .ensures) (c .before .if1 .left) (k .0) (k .1) (k .4),
+    let l = c .before .before .before .before .before .before .before .before .before .before .before .before .before .before .before .before in
+    let u = c .before .before .before .before .before .before .before .before .before .question in
+    let k = kept (c .before .before .before .before .before .before .before .before .before) in (
+      asked-more _ _ _ _ _ _ _ _ _ _ _ _ _ (l .loop .inv .0) (u .last .1 .1 .1 .1 .1 .0) (u .last .1 .1 .1 .1 .1 .1 .0) (u .last .1 .1 .1 .1 .1 .1 .1 .0) (u .result)
+          (c .before .before .before .before .before .before .before .before .before .before .before .before .before .before .before .loop-test .taken) (u .ensures) (c .before .if1 .left) (k .2),
       k .0 ∙ l .loop .inv .1,
       k .1 ∙ l .loop .inv .2,
       k .2 ∙ l .loop .inv .3,
-      k .3 ∙ l .loop .inv .4,
-      k .4 ∙ l .loop .inv .5,
     )
 
+same-length-4 : tie.Need-same-length-4 Inv-loop μ-loop
+same-length-4 c = c .before .loop .inv .1
+
+same-length-5 : tie.Need-same-length-5 Inv-loop μ-loop
+same-length-5 c = c .before .loop .inv .2
+
 same-length-6 : tie.Need-same-length-6 Inv-loop μ-loop
-same-length-6 c = c .before .loop .inv .1
-
-same-length-7 : tie.Need-same-length-7 Inv-loop μ-loop
-same-length-7 c = c .before .loop .inv .2
-
-same-length-8 : tie.Need-same-length-8 Inv-loop μ-loop
-same-length-8 c = c .before .loop .inv .3
-
-same-length-9 : tie.Need-same-length-9 Inv-loop μ-loop
-same-length-9 c = c .before .loop .inv .4
-
-same-length-10 : tie.Need-same-length-10 Inv-loop μ-loop
-same-length-10 c = c .before .loop .inv .5
+same-length-6 c = c .before .loop .inv .3
 
 returns-2 : tie.Need-returns-2 Inv-loop μ-loop
-returns-2 c = asked-all _ _ _ _ _ _ _ _ _ _ _ _ _ _ _ (c .before .loop .inv .0) (c .loop-test .left)
+returns-2 c = asked-all _ _ _ _ _ _ _ _ _ _ _ _ _ (c .before .loop .inv .0) (c .loop-test .left)
 
 pub each-question-spec : {M : Type 1} → statement M
 each-question-spec =
@@ -137,15 +120,11 @@ each-question-spec =
     same-length
     same-length-2
     same-length-3
-    same-length-4
-    same-length-5
     returns
     add-q
     loop-less
     loop-again
+    same-length-4
+    same-length-5
     same-length-6
-    same-length-7
-    same-length-8
-    same-length-9
-    same-length-10
     returns-2)

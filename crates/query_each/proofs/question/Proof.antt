@@ -13,38 +13,35 @@ usize-of-u32-requires : tie.Need-usize-of-u32-requires
 usize-of-u32-requires c κs = search needs
 
 -- where the function starts, from the walk's call and from its end
-abbrev start-of : tie.After-whole-walk-arg4 → tie.Start
-start-of c = c .before .before .before .before .before .before .before .before .before .before .before .before
+abbrev start-of : tie.After-question-walk-arg2 → tie.Start
+start-of c = c .before .before .before .before .before .before .before .before
 
-abbrev begun : tie.After-whole-walk → tie.Start
+abbrev begun : tie.After-question-walk → tie.Start
 begun c = start-of (c .before)
 
-whole-walk-requires : tie.Need-whole-walk-requires
-whole-walk-requires c κs =
+question-walk-requires : tie.Need-question-walk-requires
+question-walk-requires c κs =
     let s = start-of c in
     let a = s .args in
-    let r = s .pre .0 in
     record {
-      checked = ap (chosenChecks (a .numbers .now) (a .ends .now) (a .chosen)) (c .before .before .before .before .usize-of-u32 .ensures) ∙ s .pre .1;
-      positions-size = r .positions-size;
-      keys-size = r .keys-size;
-      answers-fit = r .fitted .answered;
-      bytes-fit = r .fitted .written;
+      checked = ap (chosenChecks (a .numbers .now) (a .ends .now) (a .chosen)) (c .before .before .usize-of-u32 .ensures) ∙ s .pre .1;
+      answers-fit = s .pre .0 .answered;
+      bytes-fit = s .pre .0 .written;
     }
 
 -- what is then written fits the buffers
-fits : (c : tie.After-whole-walk)
-    → (let a = begun c .args in let e = c .whole-walk .result in
-    Fitted (c .whole-walk .last .1 .1 .1 .1 .1 .1 .0) (c .whole-walk .last .1 .1 .1 .1 .1 .1 .1 .0)
+fits : (c : tie.After-question-walk)
+    → (let a = begun c .args in let e = c .question-walk .result in
+    Fitted (c .question-walk .last .1 .1 .1 .1 .0) (c .question-walk .last .1 .1 .1 .1 .1 .0)
     (record { answers = e .at .answers; parts = a .totals .parts + e .at .parts; bytes = e .at .bytes; left = e .at .left }))
 fits u =
     let s = begun u in
     let a = s .args in
-    fitted-after (a .numbers .now) (a .ends .now) (a .chosen) _ (a .threshold) (a .q) (a .totals) (a .answers .now) (a .certificate .now) (a .results .now) (u .whole-walk .last .1 .1 .1 .1 .1 .1 .0) (u .whole-walk .last .1 .1 .1 .1 .1 .1 .1 .0)
-    (u .before .before .before .before .before .usize-of-u32 .ensures) (s .pre .2) (s .pre .0 .fitted) (u .whole-walk .result) (u .whole-walk .ensures)
+    fitted-after (a .numbers .now) (a .ends .now) (a .chosen) _ (a .threshold) (a .q) (a .totals) (a .answers .now) (a .certificate .now) (a .results .now) (u .question-walk .last .1 .1 .1 .1 .0) (u .question-walk .last .1 .1 .1 .1 .1 .0)
+    (u .before .before .before .usize-of-u32 .ensures) (s .pre .2) (s .pre .0) (u .question-walk .result) (u .question-walk .ensures)
 
-add-t15 : tie.Need-add-t15
-add-t15 c = let f = fits (c .before .before .before .before .before .before .before .before .before .before .before) in omega (arith, f .parts)
+add-t13 : tie.Need-add-t13
+add-t13 c = let f = fits (c .before .before .before .before .before .before .before) in omega (arith, f .parts)
 
 same-length : tie.Need-same-length
 same-length c = search needs
@@ -52,62 +49,46 @@ same-length c = search needs
 same-length-2 : tie.Need-same-length-2
 same-length-2 c = search needs
 
+returns : tie.Need-returns
+returns c =
+    let u = c .before .before .before .before .before .before .before .before .before in
+    let s = begun u in
+    let a = s .args in
+    asks-stopped (a .numbers .now) (a .ends .now) (a .chosen) _ (a .threshold) (a .q) (a .totals) (a .answers .now) (a .certificate .now) (a .results .now) (u .question-walk .last .1 .1 .1 .1 .0) (u .question-walk .last .1 .1 .1 .1 .1 .0)
+    (u .before .before .before .usize-of-u32 .ensures) (s .pre .2) (s .pre .0) (u .question-walk .result) (u .question-walk .ensures) (c .if1 .taken)
+
+tell-requires : tie.Need-tell-requires
+tell-requires c κs = search needs
+
 same-length-3 : tie.Need-same-length-3
 same-length-3 c = search needs
 
 same-length-4 : tie.Need-same-length-4
 same-length-4 c = search needs
 
-returns : tie.Need-returns
-returns c =
-    let u = c .before .before .before .before .before .before .before .before .before .before .before .before .before in
-    let s = begun u in
-    let a = s .args in
-    asks-stopped (a .numbers .now) (a .ends .now) (a .chosen) _ (a .threshold) (a .q) (a .totals) (a .answers .now) (a .certificate .now) (a .results .now) (u .whole-walk .last .1 .1 .1 .1 .1 .1 .0) (u .whole-walk .last .1 .1 .1 .1 .1 .1 .1 .0)
-    (u .before .before .before .before .before .usize-of-u32 .ensures) (s .pre .2) (s .pre .0 .fitted) (u .whole-walk .result) (u .whole-walk .ensures) (c .if1 .taken)
-
-tell-requires : tie.Need-tell-requires
-tell-requires c κs = begun (c .before .before .before .before .before .before .before .before .before .before .before .before .before .before) .pre .2
-
 same-length-5 : tie.Need-same-length-5
 same-length-5 c = search needs
 
-same-length-6 : tie.Need-same-length-6
-same-length-6 c = search needs
-
-same-length-7 : tie.Need-same-length-7
-same-length-7 c = search needs
-
-same-length-8 : tie.Need-same-length-8
-same-length-8 c = search needs
-
-same-length-9 : tie.Need-same-length-9
-same-length-9 c = search needs
-
 returns-2 : tie.Need-returns-2
 returns-2 c =
-    let u = c .before .before .before .before .before .before .before .before .before .before .before .before .before .before .before .before .before in
+    let u = c .before .before .before .before .before .before .before .before .before .before .before .before .before in
     let s = begun u in
     let a = s .args in
-    asks-on (a .numbers .now) (a .ends .now) (a .chosen) _ (a .threshold) (a .q) (a .totals) (a .answers .now) (a .certificate .now) (a .results .now) (u .whole-walk .last .1 .1 .1 .1 .1 .1 .0) (u .whole-walk .last .1 .1 .1 .1 .1 .1 .1 .0)
-    (u .before .before .before .before .before .usize-of-u32 .ensures) (s .pre .2) (s .pre .0 .fitted) (u .whole-walk .result) (u .whole-walk .ensures) (c .before .before .before .before .if1 .left) _ (c .before .before .tell .ensures)
+    asks-on (a .numbers .now) (a .ends .now) (a .chosen) _ (a .threshold) (a .q) (a .totals) (a .answers .now) (a .certificate .now) (a .results .now) (u .question-walk .last .1 .1 .1 .1 .0) (u .question-walk .last .1 .1 .1 .1 .1 .0)
+    (u .before .before .before .usize-of-u32 .ensures) (s .pre .2) (s .pre .0) (u .question-walk .result) (u .question-walk .ensures) (c .before .before .before .before .if1 .left) _ (c .before .before .tell .ensures)
 
 pub question-spec : {M : Type 1} → statement M
 question-spec =
     tie.close
     (tie.spec
     usize-of-u32-requires
-    whole-walk-requires
-    add-t15
+    question-walk-requires
+    add-t13
     same-length
     same-length-2
-    same-length-3
-    same-length-4
     returns
     tell-requires
+    same-length-3
+    same-length-4
     same-length-5
-    same-length-6
-    same-length-7
-    same-length-8
-    same-length-9
     returns-2)
