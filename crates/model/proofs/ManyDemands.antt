@@ -15,7 +15,7 @@ use Rattle.model.specs.ManyDemands.{allAnswers, allParts, allBytes, allP
 use Rattle.model.specs.Refusals.{Room, Ended, cut, over}
 use Rattle.model.specs.Runs.{Run, pastBin, runs, chosen, total}
 use Rattle.model.proofs.Count.{total-le}
-use Rattle.model.proofs.Demands.{cut-unspent, cut-bound, sum-made, certified-walk, bounded-walk}
+use Rattle.model.proofs.Demands.{whole-fewest, whole-bound, cut-unspent, cut-bound, sum-made, certified-walk, bounded-walk}
 use Rattle.model.proofs.FirstChecks.{chosen-fit}
 use Rattle.model.proofs.Many.{unbegun, sum-suc, sum-same, sum-le, sum-more, parts-writing, all-size, all-probes, Asked, asked, Ending, finished, stopped, walks-end, begun-all, ended-by, own-parts, own-answers, own-bytes}
 use Rattle.model.proofs.ManyChecks.{ManyPassed, many-passed}
@@ -45,11 +45,12 @@ module _ (numbers ends masks thresholds : List ℕ) (allowance : ℕ) (answers c
   unfolding ws walksOf
   begun q h = asked _ (runs numbers ends) masks thresholds q h
 
-  pub question-fit : (q : ℕ) → q < length ws → Fit (runsOf numbers ends masks q) (getD thresholds q 0)
+  every-fit : (q : ℕ) → q < length masks → Fit (runsOf numbers ends masks q) (getD thresholds q 0)
   unfolding runsOf
-  question-fit q h =
-      let l = fewer c end in
-      chosen-fit numbers ends (getD masks q 0) (getD thresholds q 0) bins (p .each q (omega arith))
+  every-fit q h = chosen-fit numbers ends (getD masks q 0) (getD thresholds q 0) bins (p .each q h)
+
+  pub question-fit : (q : ℕ) → q < length ws → Fit (runsOf numbers ends masks q) (getD thresholds q 0)
+  question-fit q h = let l = fewer c end in every-fit q (omega arith)
 
   certified : (q : ℕ) → q < length ws
       → Certified (runsOf numbers ends masks q) (getD thresholds q 0) (getD ws q unbegun .refused) (length (partsOf (walkOf ws q)))
@@ -211,7 +212,14 @@ module _ (numbers ends masks thresholds : List ℕ) (allowance : ℕ) (answers c
   unfolding queryMany answeredMany ws c
   bounded-many ps t =
       rw (checked, queryMany)
-      (record { each = bounded-each ps t; parts = parts-sum; probes = probes-sum; enough = bounds-enough ps t })
+      (record {
+        fewest = λ q h. whole-fewest (every-fit q h) (t q h);
+        each-whole = λ q h r m. let f = whole-fewest (every-fit q h) (t q h) in whole-bound (every-fit q h) (length (ps q)) r m (omega arith);
+        each = bounded-each ps t;
+        parts = parts-sum;
+        probes = probes-sum;
+        enough = bounds-enough ps t;
+      })
 
 pub many-demand2 : (numbers ends masks thresholds : List ℕ) (allowance : ℕ) (answers certificate results : List ℕ) → Fits pastBin numbers
     → ManyDemand2 numbers ends masks thresholds results (queryMany numbers ends masks thresholds allowance answers certificate results .outcome)

@@ -2,13 +2,13 @@
 -- row. Definitions only.
 use Prim.Native.Nat.{ℕ, zero, suc, _+_, _-_, _*_, _≤_, _<_}
 use mathlib.Core.Bool.{true, false}
-use mathlib.Core.List.{List, []}
+use mathlib.Core.List.{List, [], List·Memᴰ}
 use mathlib.Core.Logic.{_≢_}
 use mathlib.Core.Path.{_≡_}
 use lib.Dec.{ltb, eqb}
 use lib.ListN.{length, getD}
 use Rattle.model.specs.Certificate.{Part, TrueCertificate}
-use Rattle.model.specs.Compared.{wholeCertificate, probesIn, probesOf, bound}
+use Rattle.model.specs.Compared.{wholeWalk, wholeCertificate, probesIn, probesOf, boundIn, bound}
 use Rattle.model.specs.Demands.{Certified, Bounded}
 use Rattle.model.specs.Many.{all-passed, manyChecks, ManyOutcome, all-accepted, refused-in, walksOf}
 use Rattle.model.specs.Refusals.{Ended}
@@ -86,10 +86,14 @@ pub record ManyDemand2 (numbers ends masks thresholds results : List ℕ) (o : M
       (ownIn answers′ results′ (finishedOf (length masks) o) (allAnswers o) 0 q)
       (ownIn certificate′ results′ (finishedOf (length masks) o) (allBytes o) 1 q)
 
--- Demand 3 for a call, d being the number of parts of another certificate for each question, and ws its walks. It holds of every question that was begun,
--- over its chosen runs, its parts and probes being that question's own. The parts and the probes returned are the sums over the questions, and an allowance
--- no smaller than the sum of all the questions' bounds never ends as spent.
+-- Demand 3 for a call, d being the number of parts of another certificate for each question, and ws its walks. Every question's whole certificate has at most
+-- its d parts, and its whole walk keeps to the bound in each chosen run; of a question that was begun so do the parts and probes that the call made, which are
+-- that question's own. The parts and the probes returned are the sums over the questions, and an allowance no smaller than the sum of all the questions' bounds
+-- never ends as spent.
 pub record ManyBounded (numbers ends masks thresholds : List ℕ) (allowance : ℕ) (ws : List Ended) (o : ManyOutcome) (certificate′ results′ : List ℕ) (d : ℕ → ℕ) : Type 0 where
+  pub fewest : (q : ℕ) → q < length masks → length (wholeCertificate (getD thresholds q 0) (runsOf numbers ends masks q)) ≤ d q
+  pub each-whole : (q : ℕ) → q < length masks → (r : Run) → List·Memᴰ r (runsOf numbers ends masks q)
+      → probesIn (r .label) (wholeWalk (getD thresholds q 0) (runsOf numbers ends masks q)) ≤ boundIn (d q) r
   pub each : (q : ℕ) → q < begunOf (length masks) o
       → Bounded (runsOf numbers ends masks q) (getD thresholds q 0) (allowance - sumTo q (λ i. probesOf (walkOf ws i))) (walkOf ws q) (endedBy o q)
       (partsOfQuestion o (length (wholeCertificate (getD thresholds q 0) (runsOf numbers ends masks q))) q) (probesOf (walkOf ws q))
