@@ -2,7 +2,7 @@
 //! write.
 
 use crate::lent::{noise, Lent};
-use crate::question::{limits_near, Limits};
+use crate::question::{limits_near, Buffers, Limits};
 use crate::Row;
 use quorum::{finished, Answered, Counts, Refusal, StoppedMany};
 use reference::testing::{lay_out, many_row, Random};
@@ -91,16 +91,13 @@ pub fn result_of(row: [u64; 7]) -> Result<Counts, StoppedMany> {
 /// The rows of one side.
 #[derive(Default)]
 struct Rows {
-    answers: Lent<u32>,
-    certificate: Lent<u8>,
+    buffers: Buffers,
     results: Lent<u64>,
 }
 
 impl Rows {
     fn fill(&mut self, limits: Limits, results: usize, seed: u64) {
-        self.answers.fill(limits.answers, |i| noise(seed, i) as u32);
-        self.certificate
-            .fill(limits.bytes, |i| noise(seed, i) as u8);
+        self.buffers.fill(limits, seed);
         self.results.fill(results, |i| noise(seed, i));
     }
 }
@@ -161,12 +158,12 @@ impl Comparer {
             masks,
             thresholds,
             allowance,
-            self.expected.answers.lend(),
-            self.expected.certificate.lend(),
+            self.expected.buffers.answers.lend(),
+            self.expected.buffers.certificate.lend(),
             self.expected.results.lend(),
         ));
-        let answers = self.found.answers.lend();
-        let certificate = self.found.certificate.lend();
+        let answers = self.found.buffers.answers.lend();
+        let certificate = self.found.buffers.certificate.lend();
         let lent = self.found.results.lend();
         let context = || format!("seed {seed}: {limits:?}, {results} result places, {call:?}");
         if self.rows {
@@ -194,13 +191,7 @@ impl Comparer {
             );
             assert_eq!(result, result_of(expected), "{}", context());
         }
-        let place = self.found.answers.difference(&self.expected.answers);
-        assert_eq!(place, None, "answers, {}", context());
-        let place = self
-            .found
-            .certificate
-            .difference(&self.expected.certificate);
-        assert_eq!(place, None, "certificate, {}", context());
+        self.found.buffers.compare(&self.expected.buffers, context);
         let place = self.found.results.difference(&self.expected.results);
         assert_eq!(place, None, "results, {}", context());
         self.seen[expected[0] as usize] += 1;
@@ -229,8 +220,8 @@ impl Comparer {
     /// finished.
     pub fn finished(&self, questions: usize) -> Vec<Answered<'_>> {
         let results = &self.found.results.read()[..2 * questions];
-        let answers = self.found.answers.read();
-        finished(results, answers, self.found.certificate.read()).collect()
+        let answers = self.found.buffers.answers.read();
+        finished(results, answers, self.found.buffers.certificate.read()).collect()
     }
 }
 

@@ -93,16 +93,24 @@ pub fn row_of(outcome: reference::Outcome) -> [u64; 6] {
 
 /// The buffers of one side.
 #[derive(Default)]
-struct Buffers {
-    answers: Lent<u32>,
-    certificate: Lent<u8>,
+pub(crate) struct Buffers {
+    pub(crate) answers: Lent<u32>,
+    pub(crate) certificate: Lent<u8>,
 }
 
 impl Buffers {
-    fn fill(&mut self, limits: Limits, seed: u64) {
+    pub(crate) fn fill(&mut self, limits: Limits, seed: u64) {
         self.answers.fill(limits.answers, |i| noise(seed, i) as u32);
         self.certificate
             .fill(limits.bytes, |i| noise(seed, i) as u8);
+    }
+
+    /// Both sides' buffers are the same, with their margins.
+    pub(crate) fn compare(&self, expected: &Buffers, context: impl Fn() -> String) {
+        let place = self.answers.difference(&expected.answers);
+        assert_eq!(place, None, "answers, {}", context());
+        let place = self.certificate.difference(&expected.certificate);
+        assert_eq!(place, None, "certificate, {}", context());
     }
 }
 
@@ -165,13 +173,7 @@ impl Comparer {
             let result = quorum::query(numbers, ends, threshold, allowance, answers, certificate);
             assert_eq!(result, result_of(expected), "{}", context());
         }
-        let place = self.found.answers.difference(&self.expected.answers);
-        assert_eq!(place, None, "answers, {}", context());
-        let place = self
-            .found
-            .certificate
-            .difference(&self.expected.certificate);
-        assert_eq!(place, None, "certificate, {}", context());
+        self.found.compare(&self.expected, context);
         self.seen[row_of(expected)[0] as usize] += 1;
         expected
     }
