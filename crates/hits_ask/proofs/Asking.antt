@@ -26,9 +26,9 @@ rendered-same : (numbers ends : List ℕ) (t allowance : ℕ) (a b c d : List �
     → query numbers ends t allowance a b .outcome ≡ o → query numbers ends t allowance c d .outcome ≡ o
     → rendered o (query numbers ends t allowance a b .certificate) ≡ rendered o (query numbers ends t allowance c d .certificate)
 unfolding rendered
-rendered-same numbers ends t allowance a b c d f (accepted x n y q) e g =
-    accepted-prints numbers ends t allowance a b f x n y q e ∙ sym (accepted-prints numbers ends t allowance c d f x n y q g)
-rendered-same numbers ends t allowance a b c d f (refused x p y z q) e g = refl
+rendered-same numbers ends t allowance a b c d f (accepted x n y k h) e g =
+    accepted-prints numbers ends t allowance a b f x n y k h e ∙ sym (accepted-prints numbers ends t allowance c d f x n y k h g)
+rendered-same numbers ends t allowance a b c d f (refused x p y z k h) e g = refl
 
 pub ask-text : (numbers ends : List ℕ) (t allowance : ℕ) (a b : List ℕ) → Fits pastBin numbers → length a ≡ answerRoom → length b ≡ certificateRoom
     → shown (query numbers ends t allowance a b) ≡ textFor numbers ends t allowance

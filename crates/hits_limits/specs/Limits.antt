@@ -20,7 +20,7 @@ certificateRoom = 65536
 
 -- room for every line `done` and every line `refuse`
 unfoldable pub lineRoom : ℕ
-lineRoom = 64
+lineRoom = 72
 
 -- Room for every text that is printed: 4 bytes for each certificate byte, and a line.
 unfoldable pub mostText : ℕ

@@ -10,7 +10,7 @@ use Rattle.model.proofs.Encoding.{size-pos, drop-fits, read-field}
 use Rattle.model.specs.Certificate.{Part, answer, gap, numberOf, sizeOf, read, readField}
 use Rattle.model.specs.Demands.{Fits}
 use Rattle.text_write.proofs.Decimals.{decimal-few}
-use Rattle.text_lines.proofs.Lines.{two-length, three-length}
+use Rattle.text_lines.proofs.Lines.{line-length}
 use Rattle.hits_parts.specs.Parts.{partLine, partLines, partsHeld}
 use Rattle.hits_parts.proofs.Parts.{Shape, field-shape, read-size, reads, held-none, held-stop, held-read}
 
@@ -19,7 +19,7 @@ use Rattle.hits_parts.proofs.Parts.{Shape, field-shape, read-size, read
 hit-room : (value named : ℕ) → value < 256 ^ 4 → named < 256 ^ 8 → length (partLine (answer value named)) ≤ 36
 unfolding partLine
 hit-room value named h k =
-    let e = two-length (104 ∷ 105 ∷ 116 ∷ []) value named in
+    let e = line-length (104 ∷ 105 ∷ 116 ∷ []) (value ∷ named ∷ []) in
     let v = decimal-few 9 value (omega arith) in
     let m = decimal-few 19 named (omega arith) in
     omega arith
@@ -27,7 +27,7 @@ hit-room value named h k =
 gap-room : (first last named : ℕ) → first < 256 ^ 4 → last < 256 ^ 4 → named < 256 ^ 8 → length (partLine (gap first last named)) ≤ 47
 unfolding partLine
 gap-room first last named h i k =
-    let e = three-length (103 ∷ 97 ∷ 112 ∷ []) first last named in
+    let e = line-length (103 ∷ 97 ∷ 112 ∷ []) (first ∷ last ∷ named ∷ []) in
     let v = decimal-few 9 first (omega arith) in
     let w = decimal-few 9 last (omega arith) in
     let m = decimal-few 19 named (omega arith) in

@@ -248,9 +248,9 @@ door rs t h =
 -- ---- the laws
 
 runs-refused : (rs : List (List ℕ)) (t allowance : ℕ) (answers certificate : List ℕ) → Kept inputNumbers 0 rs → length answers ≡ answerRoom → length certificate ≡ certificateRoom
-    → (n p a b q : ℕ) → query (text.row rs) (text.endsFrom 0 rs) t allowance answers certificate .outcome ≡ refused n p a b q → OfThese n ⊎ (n ≡ 7)
+    → (n p a b d h : ℕ) → query (text.row rs) (text.endsFrom 0 rs) t allowance answers certificate .outcome ≡ refused n p a b d h → OfThese n ⊎ (n ≡ 7)
 unfolding query inputNumbers answerRoom certificateRoom
-runs-refused rs t allowance answers certificate k e f n p a b q o = go (firstChecks (text.row rs) (text.endsFrom 0 rs) t) refl
+runs-refused rs t allowance answers certificate k e f n p a b d h o = go (firstChecks (text.row rs) (text.endsFrom 0 rs) t) refl
   where
     few : length (text.row rs) ≤ inputNumbers
     few = omega (arith, k .few)
@@ -262,26 +262,26 @@ runs-refused rs t allowance answers certificate k e f n p a b q o = go (firstChe
     bytes = omega (arith, k .few)
 
     go : (c : Check) → firstChecks (text.row rs) (text.endsFrom 0 rs) t ≡ c → OfThese n ⊎ (n ≡ 7)
-    go passed g = inr (room-enough (text.row rs) (text.endsFrom 0 rs) t allowance answers certificate (k .bins) room bytes g n p a b q o)
+    go passed g = inr (room-enough (text.row rs) (text.endsFrom 0 rs) t allowance answers certificate (k .bins) room bytes g n p a b d h o)
     go (refusal m r) g =
-        let s : refused m r 0 0 0 ≡ refused n p a b q = rw (g, query) at o in
+        let s : refused m r 0 0 0 0 ≡ refused n p a b d h = rw (g, query) at o in
         let i : m ≡ n = cc in
         inl (door rs t few .numbers n r (g ∙ ap (λ x. refusal x r) i))
 
 -- A question that an input gives is refused as 1, 2, 4 or 7 only.
-pub refusals : (failed : Bool) (input : List ℕ) (t allowance runs count : ℕ) → parsed failed input .outcome ≡ text.question t allowance runs count → (n p a b q : ℕ)
-    → asked (take count (parsed failed input .numbers)) (take runs (parsed failed input .ends)) t allowance .outcome ≡ refused n p a b q
+pub refusals : (failed : Bool) (input : List ℕ) (t allowance runs count : ℕ) → parsed failed input .outcome ≡ text.question t allowance runs count → (n p a b d h : ℕ)
+    → asked (take count (parsed failed input .numbers)) (take runs (parsed failed input .ends)) t allowance .outcome ≡ refused n p a b d h
     → (n ≡ 1) ⊎ ((n ≡ 2) ⊎ ((n ≡ 4) ⊎ (n ≡ 7)))
 unfolding asked OfThese
-refusals failed input t allowance runs count e n p a b q o =
+refusals failed input t allowance runs count e n p a b d h o =
     let r = parsed-runs failed input t allowance runs count e in
     let s : asked (take count (parsed failed input .numbers)) (take runs (parsed failed input .ends)) t allowance .outcome
     ≡ asked (text.row (r .rs)) (text.endsFrom 0 (r .rs)) t allowance .outcome =
     λ i. asked (r .numbers-are i) (r .ends-are i) t allowance .outcome in
     ⊎-elim
-    (λ (h : OfThese n). ⊎-elim (λ i. inl i) (λ h. ⊎-elim (λ i. inr (inl i)) (λ i. inr (inr (inl i))) h) h)
+    (λ (k : OfThese n). ⊎-elim (λ i. inl i) (λ k. ⊎-elim (λ i. inr (inl i)) (λ i. inr (inr (inl i))) k) k)
     (λ i. inr (inr (inr i)))
-    (runs-refused (r .rs) t allowance (replicate answerRoom 0) (replicate certificateRoom 0) (r .kept) (length-replicate {A = ℕ} answerRoom 0) (length-replicate {A = ℕ} certificateRoom 0) n p a b q (sym s ∙ o))
+    (runs-refused (r .rs) t allowance (replicate answerRoom 0) (replicate certificateRoom 0) (r .kept) (length-replicate {A = ℕ} answerRoom 0) (length-replicate {A = ℕ} certificateRoom 0) n p a b d h (sym s ∙ o))
 
 -- An input that is not a question is refused as 12.
 result-fault : (h : text.Heading) (l : text.Lines) (a b : List ℕ) (n p : ℕ) → text.resultOf h l a b .outcome ≡ text.refused n p → n ≡ 12
@@ -303,7 +303,7 @@ fault failed input n p e = lines-fault (failed || ltb mostBytes (length input)) 
 
 -- An answer is printed, or a refusal by 1, 2, 4, 7 or 12.
 data Prints (text : List ℕ) : Type 0 where
-  an-answer : (answers parts bytes probes : ℕ) (certificate : List ℕ) → text ≡ rendered (accepted answers parts bytes probes) certificate → Prints text
+  an-answer : (answers parts bytes doublings halvings : ℕ) (certificate : List ℕ) → text ≡ rendered (accepted answers parts bytes doublings halvings) certificate → Prints text
   a-refusal : (number place : ℕ) → Printable number → text ≡ refuseLine number place → Prints text
 
 prints : (failed : Bool) (input : List ℕ) → Prints (hits failed input)
@@ -312,14 +312,14 @@ prints failed input = go (parsed failed input .outcome) refl
   where
     told : (t allowance runs count : ℕ) → parsed failed input .outcome ≡ text.question t allowance runs count → (o : Outcome)
         → asked (take count (parsed failed input .numbers)) (take runs (parsed failed input .ends)) t allowance .outcome ≡ o → Prints (hits failed input)
-    told t allowance runs count e (accepted a n b q) o =
+    told t allowance runs count e (accepted a n b d h) o =
         let x = asked (take count (parsed failed input .numbers)) (take runs (parsed failed input .ends)) t allowance in
-        an-answer a n b q (x .certificate) (prints-question failed input t allowance runs count e ∙ ap (λ y. rendered y (x .certificate)) o)
-    told t allowance runs count e (refused n p a b q) o =
+        an-answer a n b d h (x .certificate) (prints-question failed input t allowance runs count e ∙ ap (λ y. rendered y (x .certificate)) o)
+    told t allowance runs count e (refused n p a b d h) o =
         let x = asked (take count (parsed failed input .numbers)) (take runs (parsed failed input .ends)) t allowance in
         a-refusal n p
-        (⊎-elim (λ i. inl i) (λ h. inr (⊎-elim (λ i. inl i) (λ h. inr (⊎-elim (λ i. inl i) (λ i. inr (inl i)) h)) h))
-        (refusals failed input t allowance runs count e n p a b q o))
+        (⊎-elim (λ i. inl i) (λ k. inr (⊎-elim (λ i. inl i) (λ k. inr (⊎-elim (λ i. inl i) (λ i. inr (inl i)) k)) k))
+        (refusals failed input t allowance runs count e n p a b d h o))
         (prints-question failed input t allowance runs count e ∙ ap (λ y. rendered y (x .certificate)) o)
 
     go : (o : text.Outcome) → parsed failed input .outcome ≡ o → Prints (hits failed input)
@@ -368,11 +368,11 @@ same-number n p m r e =
     sym (value-word n (decimal p ++ (10 ∷ []))) ∙ ap (valueOf 0) w ∙ value-word m (decimal r ++ (10 ∷ []))
 
 -- an answer begins with another word
-answer-not : {A : Type 0} (ps : List Part) (a n q m p : ℕ) → partLines ps ++ doneLine a n q ≡ refuseLine m p → A
+answer-not : {A : Type 0} (ps : List Part) (a n d h m p : ℕ) → partLines ps ++ doneLine a n d h ≡ refuseLine m p → A
 unfolding partLines partLine doneLine refuseLine line
-answer-not [] a n q m p e = let z : _≡_ {A = ℕ} 100 114 = cc in absurd (omega arith)
-answer-not (answer v w ∷ ps) a n q m p e = let z : _≡_ {A = ℕ} 104 114 = cc in absurd (omega arith)
-answer-not (gap f l w ∷ ps) a n q m p e = let z : _≡_ {A = ℕ} 103 114 = cc in absurd (omega arith)
+answer-not [] a n d h m p e = let z : _≡_ {A = ℕ} 100 114 = cc in absurd (omega arith)
+answer-not (answer v w ∷ ps) a n d h m p e = let z : _≡_ {A = ℕ} 104 114 = cc in absurd (omega arith)
+answer-not (gap f l w ∷ ps) a n d h m p e = let z : _≡_ {A = ℕ} 103 114 = cc in absurd (omega arith)
 
 -- Whatever the input is: if the line of a refusal is printed for it, the number is 1, 2, 4, 7 or 12, never 3, 5 or 6.
 pub printed-refusals : (failed : Bool) (input : List ℕ) (n p : ℕ) → hits failed input ≡ refuseLine n p → Printable n
@@ -380,5 +380,5 @@ unfolding rendered
 printed-refusals failed input n p e = go (prints failed input)
   where
     go : Prints (hits failed input) → Printable n
-    go (an-answer a m b q certificate k) = answer-not (partsHeld (take b certificate)) a m q n p (sym k ∙ e)
+    go (an-answer a m b d h certificate k) = answer-not (partsHeld (take b certificate)) a m d h n p (sym k ∙ e)
     go (a-refusal m r h k) = subst Printable (same-number m r n p (sym k ∙ e)) h

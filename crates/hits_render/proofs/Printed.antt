@@ -30,31 +30,31 @@ held-encode (p ∷ ps) k c h =
     ∙ ap (λ l. p ∷ l) (held-encode ps k (covers-rest c) (λ q m. h q (List·Memᴰ·tail m)))
 
 -- what a certified outcome prints
-certified-prints : (rs : List Run) (t : ℕ) (answers certificate : List ℕ) (a n b q : ℕ) → Narrow rs → Certified rs t 0 n answers (take b certificate)
-    → rendered (accepted a n b q) certificate ≡ partLines (wholeCertificate t rs) ++ doneLine a n q
+certified-prints : (rs : List Run) (t : ℕ) (answers certificate : List ℕ) (a n b d h : ℕ) → Narrow rs → Certified rs t 0 n answers (take b certificate)
+    → rendered (accepted a n b d h) certificate ≡ partLines (wholeCertificate t rs) ++ doneLine a n d h
 unfolding rendered bytesIn
-certified-prints rs t answers certificate a n b q k c =
+certified-prints rs t answers certificate a n b d h k c =
     let e = c .at-the-end refl in
     let whole = wholeCertificate t rs in
     let i : take b certificate ≡ encode whole = c .written ∙ ap encode (ap (λ m. take m whole) e ∙ take-length whole) in
     let j : partsHeld (take b certificate) ≡ whole = ap partsHeld i ∙ held-encode whole k (c .whole-true .covering) (c .whole-true .each) in
-    ap (λ ps. partLines ps ++ doneLine a n q) j
+    ap (λ ps. partLines ps ++ doneLine a n d h) j
 
 -- An accepted question prints a line for each part of the whole certificate, and then its counts.
-pub accepted-prints : (numbers ends : List ℕ) (t allowance : ℕ) (answers certificate : List ℕ) → Fits pastBin numbers → (a n b q : ℕ)
-    → query numbers ends t allowance answers certificate .outcome ≡ accepted a n b q
-    → rendered (accepted a n b q) (query numbers ends t allowance answers certificate .certificate)
-    ≡ partLines (wholeCertificate t (runs numbers ends)) ++ doneLine a n q
+pub accepted-prints : (numbers ends : List ℕ) (t allowance : ℕ) (answers certificate : List ℕ) → Fits pastBin numbers → (a n b d h : ℕ)
+    → query numbers ends t allowance answers certificate .outcome ≡ accepted a n b d h
+    → rendered (accepted a n b d h) (query numbers ends t allowance answers certificate .certificate)
+    ≡ partLines (wholeCertificate t (runs numbers ends)) ++ doneLine a n d h
 unfolding query refusedBy partsIn answersIn bytesIn
-accepted-prints numbers ends t allowance answers certificate f a n b q o = go (firstChecks numbers ends t) refl
+accepted-prints numbers ends t allowance answers certificate f a n b d h o = go (firstChecks numbers ends t) refl
   where
     go : (c : Check) → firstChecks numbers ends t ≡ c
-        → rendered (accepted a n b q) (query numbers ends t allowance answers certificate .certificate)
-        ≡ partLines (wholeCertificate t (runs numbers ends)) ++ doneLine a n q
+        → rendered (accepted a n b d h) (query numbers ends t allowance answers certificate .certificate)
+        ≡ partLines (wholeCertificate t (runs numbers ends)) ++ doneLine a n d h
     go passed e =
         let k = chosen-narrow numbers ends (2 ^ length ends - 1) (first-passed numbers ends t e .few-runs) in
-        certified-prints (runs numbers ends) t _ _ a n b q (subst Narrow (every-run numbers ends) k)
+        certified-prints (runs numbers ends) t _ _ a n b d h (subst Narrow (every-run numbers ends) k)
         (rw o at (demand2 numbers ends t allowance answers certificate f .for-every e))
     go (refusal m p) e =
-        let s : refused m p 0 0 0 ≡ accepted a n b q = rw (e, query) at o in
+        let s : refused m p 0 0 0 0 ≡ accepted a n b d h = rw (e, query) at o in
         absurd (let z : _≡_ {A = ℕ} 0 1 = cc in omega arith)

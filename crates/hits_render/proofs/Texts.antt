@@ -31,12 +31,13 @@ take-least n m l e =
     (λ (h : length l ≤ m). take-all n l (omega arith) ∙ sym (take-all m l h))
     (lt-or-le m (length l))
 
-pub done-laid : (answers parts bytes probes : ℕ) (certificate : List ℕ) {n a b q : ℕ} {l l₁ l₂ : List ℕ} {p₁ p₂ : ℕ} → n ≡ min bytes (length certificate)
-    → Lays (partLines (partsHeld (take (n - 0) (drop 0 certificate)))) l 0 l₁ p₁ → a ≡ answers → b ≡ parts → q ≡ probes
-    → Lays (line (100 ∷ 111 ∷ 110 ∷ 101 ∷ []) (a ∷ b ∷ q ∷ [])) l₁ p₁ l₂ p₂ → Lays (rendered (accepted answers parts bytes probes) certificate) l 0 l₂ p₂
+pub done-laid : (answers parts bytes doublings halvings : ℕ) (certificate : List ℕ) {n a b d h : ℕ} {l l₁ l₂ : List ℕ} {p₁ p₂ : ℕ} → n ≡ min bytes (length certificate)
+    → Lays (partLines (partsHeld (take (n - 0) (drop 0 certificate)))) l 0 l₁ p₁ → a ≡ answers → b ≡ parts → d ≡ doublings → h ≡ halvings
+    → Lays (line (100 ∷ 111 ∷ 110 ∷ 101 ∷ []) (a ∷ b ∷ d ∷ h ∷ [])) l₁ p₁ l₂ p₂
+    → Lays (rendered (accepted answers parts bytes doublings halvings) certificate) l 0 l₂ p₂
 unfolding rendered doneLine
-done-laid answers parts bytes probes certificate {n} e g i j k h =
-    lays-then (rw (take-least (n - 0) bytes certificate (omega arith)) at g) (rw (i, j, k) at h)
+done-laid answers parts bytes doublings halvings certificate {n} e g i j k m h =
+    lays-then (rw (take-least (n - 0) bytes certificate (omega arith)) at g) (rw (i, j, k, m) at h)
 
 pub refuse-laid : (number place : ℕ) {n p : ℕ} {l l₁ : List ℕ} {p₁ : ℕ} → n ≡ number → p ≡ place
     → Lays (line (114 ∷ 101 ∷ 102 ∷ 117 ∷ 115 ∷ 101 ∷ []) (n ∷ p ∷ [])) l 0 l₁ p₁ → Lays (refuseLine number place) l 0 l₁ p₁
@@ -50,17 +51,18 @@ module _ {before after : List ℕ} {r : Rendered} where
       → r ≡ Text (length (refuseLine number place))
   refuse-whole number place h k s e = let z = refuse-room number place h k in shown-whole s (omega arith)
 
-  pub accept-whole : (answers parts bytes probes : ℕ) (certificate : List ℕ) → Fits 256 certificate → answers < 2 ^ 64 → parts < 2 ^ 64 → probes < 2 ^ 32
-      → Shows (rendered (accepted answers parts bytes probes) certificate) before after r → 4 * length certificate + lineRoom ≤ length before
-      → r ≡ Text (length (rendered (accepted answers parts bytes probes) certificate))
-  accept-whole answers parts bytes probes certificate f h i k s e =
-      let z = text-room answers parts bytes probes certificate f h i k in
+  pub accept-whole : (answers parts bytes doublings halvings : ℕ) (certificate : List ℕ) → Fits 256 certificate → answers < 2 ^ 64 → parts < 2 ^ 64
+      → doublings < 2 ^ 32 → halvings < 2 ^ 32 → Shows (rendered (accepted answers parts bytes doublings halvings) certificate) before after r → 4 * length certificate + lineRoom ≤ length before
+      → r ≡ Text (length (rendered (accepted answers parts bytes doublings halvings) certificate))
+  accept-whole answers parts bytes doublings halvings certificate f h i j k s e =
+      let z = text-room answers parts bytes doublings halvings certificate f h i j k in
       shown-whole s (omega arith)
 
   -- what a refused outcome prints
-  pub refused-shows : (o : code.Outcome) (number place answers bytes probes : ℕ) (certificate : List ℕ) → o ≡ Refused number place answers bytes probes
+  pub refused-shows : (o : code.Outcome) (number place answers bytes doublings halvings : ℕ) (certificate : List ℕ)
+      → o ≡ Refused number place answers bytes doublings halvings
       → Shows (refuseLine number place) before after r × (lineRoom ≤ length before → r ≡ Text (length (refuseLine number place)))
       → Shows (rendered (outcomeIs o) certificate) before after r
       × (4 * length certificate + lineRoom ≤ length before → r ≡ Text (length (rendered (outcomeIs o) certificate)))
   unfolding rendered
-  refused-shows o number place answers bytes probes certificate e s = rw e (s .0, λ h. s .1 (omega arith))
+  refused-shows o number place answers bytes doublings halvings certificate e s = rw e (s .0, λ h. s .1 (omega arith))

@@ -11,9 +11,9 @@ use Rattle.hits_render.specs.declared.Rendered.the-variants.{Text, Full}
 use Rattle.text_lines.specs.Lines.{line}
 use Rattle.hits_parts.specs.Parts.{partLines, partsHeld}
 
--- `done` answers parts probes
-unfoldable pub doneLine : ℕ → ℕ → ℕ → List ℕ
-doneLine answers parts probes = line (100 ∷ 111 ∷ 110 ∷ 101 ∷ []) (answers ∷ parts ∷ probes ∷ [])
+-- `done` answers parts doublings halvings
+unfoldable pub doneLine : ℕ → ℕ → ℕ → ℕ → List ℕ
+doneLine answers parts doublings halvings = line (100 ∷ 111 ∷ 110 ∷ 101 ∷ []) (answers ∷ parts ∷ doublings ∷ halvings ∷ [])
 
 -- `refuse` number place
 unfoldable pub refuseLine : ℕ → ℕ → List ℕ
@@ -22,8 +22,9 @@ refuseLine number place = line (114 ∷ 101 ∷ 102 ∷ 117 ∷ 115 ∷ 101 ∷ 
 -- An accepted question prints a line for each part of its certificate, which is the first bytes of the buffer, and the line `done`. A refused one
 -- prints only the line `refuse`.
 unfoldable pub rendered : Outcome → List ℕ → List ℕ
-rendered (accepted answers parts bytes probes) certificate = partLines (partsHeld (take bytes certificate)) ++ doneLine answers parts probes
-rendered (refused number place answers bytes probes) certificate = refuseLine number place
+rendered (accepted answers parts bytes doublings halvings) certificate =
+    partLines (partsHeld (take bytes certificate)) ++ doneLine answers parts doublings halvings
+rendered (refused number place answers bytes doublings halvings) certificate = refuseLine number place
 
 -- A text in a buffer: what fits is written from the front, and the rest of the buffer is unchanged. The result is the text's length, or that it does
 -- not fit.

@@ -44,22 +44,24 @@ fn accept(
     answers: usize,
     parts: usize,
     bytes: usize,
-    probes: u32,
+    doublings: u32,
+    halvings: u32,
     certificate: &[u8],
     text: &mut [u8],
 ) -> Rendered
-    ensures shows { λ r. ⌜ Shows (rendered (accepted answers parts bytes probes) (now (certificate .entry))) (now (text .entry)) (now (text .exit)) r ⌝ }
-    ensures enough { λ r. ⌜ (4 * length (now (certificate .entry)) + lineRoom ≤ length (now (text .entry)) → r ≡ Rendered.Text (length (rendered (accepted answers parts bytes probes) (now (certificate .entry))))) ⌝ }
+    ensures shows { λ r. ⌜ Shows (rendered (accepted answers parts bytes doublings halvings) (now (certificate .entry))) (now (text .entry)) (now (text .exit)) r ⌝ }
+    ensures enough { λ r. ⌜ (4 * length (now (certificate .entry)) + lineRoom ≤ length (now (text .entry)) → r ≡ Rendered.Text (length (rendered (accepted answers parts bytes doublings halvings) (now (certificate .entry))))) ⌝ }
 {
     let n = arith::least(bytes, certificate.len());
     let next = hits_parts::put_parts(text, &certificate[0..n]);
-    let end = text_lines::put_three(
+    let end = text_lines::put_four(
         text,
         next,
         b"done",
         arith::u64_of_usize(answers),
         arith::u64_of_usize(parts),
-        arith::u64_of_u32(probes),
+        arith::u64_of_u32(doublings),
+        arith::u64_of_u32(halvings),
     );
     shown(end, text.len())
 }
@@ -74,14 +76,24 @@ pub fn render(outcome: Outcome, certificate: &[u8], text: &mut [u8]) -> Rendered
             answers,
             parts,
             bytes,
-            probes,
-        } => accept(answers, parts, bytes, probes, certificate, text),
+            doublings,
+            halvings,
+        } => accept(
+            answers,
+            parts,
+            bytes,
+            doublings,
+            halvings,
+            certificate,
+            text,
+        ),
         Outcome::Refused {
             number,
             place,
             answers: _,
             bytes: _,
-            probes: _,
+            doublings: _,
+            halvings: _,
         } => refuse(number, place, text),
     }
 }

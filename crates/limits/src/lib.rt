@@ -24,4 +24,4 @@ pub const HITS_ANSWERS: usize = 1024;
 pub const HITS_CERTIFICATE: usize = 65536;
 
 // and there is room for every text that it prints.
-pub const HITS_TEXT: usize = 262208;
+pub const HITS_TEXT: usize = 262216;

@@ -2,20 +2,19 @@
 -- numbers a walk makes at most 2 × parts × digits n probes. A search moves its run on by at least one number, so it makes at most 2 × n × digits n as
 -- well. Every probe is some run's, so their number is the sum over the runs. Assumes nothing.
 use Prim.Native.Nat.{ℕ, zero, suc, _+_, _*_, _≤_, _<_}
-use borrow.Author.Tests.{lt-ltb, le-ltb, ltb-true, eq-eqb, ne-eqb}
+use borrow.Author.Tests.{lt-ltb, le-ltb, eq-eqb, ne-eqb}
 use lib.Dec.{ltb, eqb}
 use lib.ListN.{length, replicate}
-use mathlib.Core.Bool.{Bool, true, false}
-use mathlib.Core.List.{List, [], _∷_, _++_, map, List·Memᴰ, List·Memᴰ·head, List·Memᴰ·tail, List·Memᴰ·not-nil, List·Memᴰ·cases-cons, List·Memᴰ·append-cases}
+use mathlib.Core.List.{List, [], _∷_, _++_, List·Memᴰ, List·Memᴰ·head, List·Memᴰ·tail, List·Memᴰ·not-nil, List·Memᴰ·cases-cons, List·Memᴰ·append-cases}
 use mathlib.Core.Logic.{⊎-elim, _≢_}
 use mathlib.Core.Path.{_≡_, refl, sym, ap, _∙_}
 use native.Mathlib.Nat.{mul-le-mul-left}
 use native.Mathlib.Omega.{arith}
 use Rattle.model.specs.Certificate.{Part}
-use Rattle.model.specs.Compared.{partsOf, cost, probeIn, probesIn, probe, probesOf, digits}
+use Rattle.model.specs.Compared.{partsOf, cost, doublingProbe, halvingProbe, probe, inRun, probesIn, digits}
 use Rattle.model.specs.Runs.{Run, pastBin, total, one}
 use Rattle.model.specs.Walk.{Event, sought, doubled, halved, wrote, headOf, head, seek, searchIn, searches}
-use Rattle.model.proofs.Count.{total-map, total-zero, total-add}
+use Rattle.model.proofs.Count.{total-map, total-zero, total-add, total-times}
 use Rattle.model.proofs.Digits.{digits-mono}
 use Rattle.model.proofs.Events.{cost-append, cost-replicate, cost-searches, parts-wrote, parts-round}
 use Rattle.model.specs.Rows.{Rise, from}
@@ -36,11 +35,11 @@ pub search-none : (v : ℕ) (r : Run) → v ≤ head r → searchIn v r ≡ []
 unfolding searchIn
 search-none v r h = rw (le-ltb (head r) v h, searchIn)
 
--- what a search costs, given what a probe in its run costs
-pub search-cost : (c : Event → ℕ) (v k : ℕ) (r : Run) → c (sought (r .label)) ≡ 0 → c (doubled (r .label)) ≡ k → c (halved (r .label)) ≡ k → head r < v
-    → cost c (searchIn v r) ≡ (seek v (r .bins) .doublings + seek v (r .bins) .halvings) * k
+-- what a search costs, given what its beginning and its probes cost
+pub search-cost : (c : Event → ℕ) (v i j k : ℕ) (r : Run) → c (sought (r .label)) ≡ i → c (doubled (r .label)) ≡ j → c (halved (r .label)) ≡ k → head r < v
+    → cost c (searchIn v r) ≡ i + (seek v (r .bins) .doublings * j + seek v (r .bins) .halvings * k)
 unfolding cost
-search-cost c v k r e₀ e₁ e₂ h =
+search-cost c v i j k r e₀ e₁ e₂ h =
     let d = seek v (r .bins) .doublings in
     let n = seek v (r .bins) .halvings in
     let a = cost-append c (replicate d (doubled (r .label))) (replicate n (halved (r .label))) in
@@ -58,24 +57,24 @@ two-digits v (x ∷ s) g b h =
 -- The probes of a search in its own run, none where the head is not below v; and those in any other run.
 own-search : (v : ℕ) (r : Run) {a : ℕ} → Rise a (r .bins) → v ≤ pastBin
     → probesIn (r .label) (searchIn v r) ≤ one (ltb (headOf (r .bins)) v) * (2 * digits (length (r .bins)))
-unfolding probesIn probeIn cost head one
+unfolding probesIn inRun probe doublingProbe halvingProbe cost head one
 own-search v r g b =
     ⊎-elim
     (λ (h : head r < v).
     let e : one (eqb (r .label) (r .label)) ≡ 1 = ap one (eq-eqb (r .label) (r .label) refl) in
-    let c = search-cost (probeIn (r .label)) v 1 r refl e e h in
+    let c = search-cost (inRun (r .label) probe) v 0 1 1 r (omega arith) (omega arith) (omega arith) h in
     let k = two-digits v (r .bins) g b h in
     rw (lt-ltb (headOf (r .bins)) v h) (omega arith))
     (λ (h : v ≤ head r). rw (search-none v r h) (omega arith))
     (lt-or-le (head r) v)
 
 other-search : (v i : ℕ) (r : Run) → i ≢ r .label → probesIn i (searchIn v r) ≡ 0
-unfolding probesIn probeIn cost one
+unfolding probesIn inRun probe doublingProbe halvingProbe cost one
 other-search v i r n =
     ⊎-elim
     (λ (h : head r < v).
     let e : one (eqb i (r .label)) ≡ 0 = ap one (ne-eqb i (r .label) n) in
-    let c = search-cost (probeIn i) v 0 r refl e e h in
+    let c = search-cost (inRun i probe) v 0 0 0 r (omega arith) (omega arith) (omega arith) h in
     omega arith)
     (λ (h : v ≤ head r). rw (search-none v r h))
     (lt-or-le (head r) v)
@@ -114,8 +113,8 @@ round-probes : (v f : ℕ) {rs : List Run} {t : ℕ} → Fit rs t → v ≤ past
     → probesIn (r .label) (searches v (at f rs)) ≤ one (ltb (headOf (from f (r .bins))) v) * (2 * digits (length (r .bins)))
 unfolding probesIn at
 round-probes v f {rs} g b r m =
-    let c = cost-searches (probeIn (r .label)) v (at f rs) in
-    let d = total-map (λ q. cost (probeIn (r .label)) (searchIn v q)) (fromRun f) rs in
+    let c = cost-searches (inRun (r .label) probe) v (at f rs) in
+    let d = total-map (λ q. cost (inRun (r .label) probe) (searchIn v q)) (fromRun f) rs in
     let k = round-total v f rs (g .labels) (g .rising) b r m in
     omega arith
 
@@ -129,17 +128,17 @@ pub record Probed (r : Run) (f : ℕ) (es : List Event) : Type 0 where
 
 -- an answer, and a part with the searches after it, before the rest of a walk
 probed-answer : {r : Run} {v : ℕ} {es : List Event} (p : Part) → v < pastBin → Probed r (suc v) es → Probed r v (wrote p ∷ es)
-unfolding probesIn cost probeIn
+unfolding probesIn cost inRun
 probed-answer {r} {v} {es} p b i =
     let n = from-fewer v (suc v) (r .bins) (omega arith) (omega arith) in
     record { made = i .made; probes = omega arith; parts = rw (parts-wrote p es) (omega arith); numbers = omega arith }
 
 probed-round : {rs : List Run} {t f v : ℕ} {es : List Event} (p : Part) → Fit rs t → f ≤ v → v ≤ pastBin → (r : Run) → List·Memᴰ r rs → Probed r v es
     → Probed r f (wrote p ∷ (searches v (at f rs) ++ es))
-unfolding probesIn cost probeIn
+unfolding probesIn cost inRun
 probed-round {rs} {f = f} {v = v} {es = es} p g l b r m i =
     let k = round-probes v f g b r m in
-    let c = cost-append (probeIn (r .label)) (searches v (at f rs)) es in
+    let c = cost-append (inRun (r .label) probe) (searches v (at f rs)) es in
     let n = from-fewer f v (r .bins) l b in
     let o = one-most (ltb (headOf (from f (r .bins))) v) in
     record {
@@ -150,7 +149,7 @@ probed-round {rs} {f = f} {v = v} {es = es} p g l b r m i =
     }
 
 pub walk-probes : {rs : List Run} {t f : ℕ} {es : List Event} → Fit rs t → Walked rs t f es → (r : Run) → List·Memᴰ r rs → Probed r f es
-unfolding probesIn cost probeIn
+unfolding probesIn cost inRun
 walk-probes g (over e) r m = record { made = 0; probes = omega arith; parts = omega arith; numbers = omega arith }
 walk-probes g (stop l h) r m = record { made = 0; probes = omega arith; parts = omega arith; numbers = omega arith }
 walk-probes g (pass l a q w) r m = let b = a .bin in probed-round _ g (omega arith) (omega arith) r m (walk-probes g w r m)
@@ -160,9 +159,9 @@ walk-probes g (hit-here a q w) r m = probed-answer _ (a .bin) (walk-probes g w r
 
 -- ---- the sum over the runs
 
--- the cost of an event to all runs together is its cost as a probe
+-- What is done is done in one of the runs, unless it writes a part: so its costs in the runs are its cost together, whatever is counted of it.
 pub record Owned (rs : List Run) (es : List Event) : Type 0 where
-  pub each : (e : Event) → List·Memᴰ e es → total (λ r. probeIn (r .label) e) rs ≡ probe e
+  pub each : (e : Event) → List·Memᴰ e es → (c : Event → ℕ) → ((p : Part) → c (wrote p) ≡ 0) → total (λ r. inRun (r .label) c e) rs ≡ c e
 
 one-label : {a : ℕ} (rs : List Run) → Ascending a rs → (q : Run) → List·Memᴰ q rs → total (λ r. one (eqb (r .label) (q .label))) rs ≡ 1
 unfolding total one
@@ -187,25 +186,10 @@ replicate-mem : (n : ℕ) (x e : Event) → List·Memᴰ e (replicate n x) → e
 replicate-mem zero x e m = absurd (List·Memᴰ·not-nil m)
 replicate-mem (suc n) x e m = ⊎-elim (λ i. i) (λ k. replicate-mem n x e k) (List·Memᴰ·cases-cons m)
 
-owned-event : (rs : List Run) (e e′ : Event) → e ≡ e′ → total (λ r. probeIn (r .label) e′) rs ≡ probe e′ → total (λ r. probeIn (r .label) e) rs ≡ probe e
-owned-event rs e e′ i h = rw i h
-
-owned-search : {a : ℕ} (rs : List Run) → Ascending a rs → (v : ℕ) (q : Run) → List·Memᴰ q rs → (e : Event) → List·Memᴰ e (searchIn v q)
-    → total (λ r. probeIn (r .label) e) rs ≡ probe e
-unfolding probeIn probe
-owned-search rs l v q m e n =
-    ⊎-elim
-    (λ (h : head q < v).
-    ⊎-elim
-    (λ (i : e ≡ sought (q .label)). owned-event rs e (sought (q .label)) i (total-zero _ rs (λ r k. refl)))
-    (λ k.
-    ⊎-elim
-    (λ o. owned-event rs e (doubled (q .label)) (replicate-mem (seek v (q .bins) .doublings) (doubled (q .label)) e o) (one-label rs l q m))
-    (λ o. owned-event rs e (halved (q .label)) (replicate-mem (seek v (q .bins) .halvings) (halved (q .label)) e o) (one-label rs l q m))
-    (List·Memᴰ·append-cases (replicate (seek v (q .bins) .doublings) (doubled (q .label))) k))
-    (List·Memᴰ·cases-cons (rw (search-made v q h) at n)))
-    (λ (h : v ≤ head q). absurd (List·Memᴰ·not-nil (rw (search-none v q h) at n)))
-    (lt-or-le (head q) v)
+-- what is done in one run, n being its cost
+owned-run : {a : ℕ} (rs : List Run) → Ascending a rs → (q : Run) → List·Memᴰ q rs → (n : ℕ) → total (λ r. one (eqb (r .label) (q .label)) * n) rs ≡ n
+owned-run rs l q m n =
+    let e : 1 * n ≡ n = omega arith in total-times (λ r. one (eqb (r .label) (q .label))) n rs ∙ (ap (λ x. x * n) (one-label rs l q m) ∙ e)
 
 searches-mem : (v : ℕ) (rs : List Run) (e : Event) → List·Memᴰ e (searches v rs) → (q : Run) × List·Memᴰ q rs × List·Memᴰ e (searchIn v q)
 unfolding searches
@@ -216,48 +200,72 @@ searches-mem v (r ∷ rs) e m =
     (λ n. let t = searches-mem v rs e n in (t .0, List·Memᴰ·tail (t .1), t .2))
     (List·Memᴰ·append-cases (searchIn v r) m)
 
-labels-at : (f : ℕ) (e : Event) (rs : List Run) → total (λ r. probeIn (r .label) e) (at f rs) ≡ total (λ r. probeIn (r .label) e) rs
-unfolding at fromRun
-labels-at f e rs = total-map _ (fromRun f) rs
+module _ (c : Event → ℕ) (silent : (p : Part) → c (wrote p) ≡ 0) where
+  owned-event : (rs : List Run) (e e′ : Event) → e ≡ e′ → total (λ r. inRun (r .label) c e′) rs ≡ c e′ → total (λ r. inRun (r .label) c e) rs ≡ c e
+  owned-event rs e e′ i h = rw i h
 
-owned-searches : {rs : List Run} {t : ℕ} (v f : ℕ) → Fit rs t → (e : Event) → List·Memᴰ e (searches v (at f rs))
-    → total (λ r. probeIn (r .label) e) rs ≡ probe e
-owned-searches {rs} v f g e m =
-    let s = searches-mem v (at f rs) e m in
-    sym (labels-at f e rs) ∙ owned-search (at f rs) (ascending-at f (g .labels)) v (s .0) (s .1) e (s .2)
+  owned-search : {a : ℕ} (rs : List Run) → Ascending a rs → (v : ℕ) (q : Run) → List·Memᴰ q rs → (e : Event) → List·Memᴰ e (searchIn v q)
+      → total (λ r. inRun (r .label) c e) rs ≡ c e
+  unfolding inRun
+  owned-search rs l v q m e n =
+      ⊎-elim
+      (λ (h : head q < v).
+      ⊎-elim
+      (λ (i : e ≡ sought (q .label)). owned-event rs e (sought (q .label)) i (owned-run rs l q m (c (sought (q .label)))))
+      (λ k.
+      ⊎-elim
+      (λ o. owned-event rs e (doubled (q .label)) (replicate-mem (seek v (q .bins) .doublings) (doubled (q .label)) e o)
+      (owned-run rs l q m (c (doubled (q .label)))))
+      (λ o. owned-event rs e (halved (q .label)) (replicate-mem (seek v (q .bins) .halvings) (halved (q .label)) e o)
+      (owned-run rs l q m (c (halved (q .label)))))
+      (List·Memᴰ·append-cases (replicate (seek v (q .bins) .doublings) (doubled (q .label))) k))
+      (List·Memᴰ·cases-cons (rw (search-made v q h) at n)))
+      (λ (h : v ≤ head q). absurd (List·Memᴰ·not-nil (rw (search-none v q h) at n)))
+      (lt-or-le (head q) v)
 
-owned-part : (rs : List Run) (e : Event) (p : Part) → e ≡ wrote p → total (λ r. probeIn (r .label) e) rs ≡ probe e
-unfolding probeIn probe
-owned-part rs e p i = owned-event rs e (wrote p) i (total-zero _ rs (λ r k. refl))
+  labels-at : (f : ℕ) (e : Event) (rs : List Run) → total (λ r. inRun (r .label) c e) (at f rs) ≡ total (λ r. inRun (r .label) c e) rs
+  unfolding at fromRun
+  labels-at f e rs = total-map _ (fromRun f) rs
 
-walk-owned : {rs : List Run} {t f : ℕ} {es : List Event} → Fit rs t → Walked rs t f es → (e : Event) → List·Memᴰ e es
-    → total (λ r. probeIn (r .label) e) rs ≡ probe e
-walk-owned g (over i) e m = absurd (List·Memᴰ·not-nil m)
-walk-owned {rs} g (stop l h) e m = ⊎-elim (λ i. owned-part rs e _ i) (λ n. absurd (List·Memᴰ·not-nil n)) (List·Memᴰ·cases-cons m)
-walk-owned {rs} {f = f} g (pass {v = v} l a q w) e m =
-    ⊎-elim
-    (λ i. owned-part rs e _ i)
-    (λ n. ⊎-elim (λ k. owned-searches v f g e k) (λ k. walk-owned g w e k) (List·Memᴰ·append-cases (searches v (at f rs)) n))
-    (List·Memᴰ·cases-cons m)
-walk-owned {rs} {f = f} g (hit {v = v} l a q w) e m =
-    ⊎-elim
-    (λ i. owned-part rs e _ i)
-    (λ n.
-    ⊎-elim
-    (λ k. owned-searches v f g e k)
-    (λ k. ⊎-elim (λ i. owned-part rs e _ i) (λ o. walk-owned g w e o) (List·Memᴰ·cases-cons k))
-    (List·Memᴰ·append-cases (searches v (at f rs)) n))
-    (List·Memᴰ·cases-cons m)
-walk-owned {rs} g (hit-here a q w) e m = ⊎-elim (λ i. owned-part rs e _ i) (λ n. walk-owned g w e n) (List·Memᴰ·cases-cons m)
+  owned-searches : {rs : List Run} {t : ℕ} (v f : ℕ) → Fit rs t → (e : Event) → List·Memᴰ e (searches v (at f rs))
+      → total (λ r. inRun (r .label) c e) rs ≡ c e
+  owned-searches {rs} v f g e m =
+      let s = searches-mem v (at f rs) e m in
+      sym (labels-at f e rs) ∙ owned-search (at f rs) (ascending-at f (g .labels)) v (s .0) (s .1) e (s .2)
+
+  owned-part : (rs : List Run) (e : Event) (p : Part) → e ≡ wrote p → total (λ r. inRun (r .label) c e) rs ≡ c e
+  unfolding inRun
+  owned-part rs e p i = owned-event rs e (wrote p) i (total-zero _ rs (λ r k. refl) ∙ sym (silent p))
+
+  walk-owned : {rs : List Run} {t f : ℕ} {es : List Event} → Fit rs t → Walked rs t f es → (e : Event) → List·Memᴰ e es
+      → total (λ r. inRun (r .label) c e) rs ≡ c e
+  walk-owned g (over i) e m = absurd (List·Memᴰ·not-nil m)
+  walk-owned {rs} g (stop l h) e m = ⊎-elim (λ i. owned-part rs e _ i) (λ n. absurd (List·Memᴰ·not-nil n)) (List·Memᴰ·cases-cons m)
+  walk-owned {rs} {f = f} g (pass {v = v} l a q w) e m =
+      ⊎-elim
+      (λ i. owned-part rs e _ i)
+      (λ n. ⊎-elim (λ k. owned-searches v f g e k) (λ k. walk-owned g w e k) (List·Memᴰ·append-cases (searches v (at f rs)) n))
+      (List·Memᴰ·cases-cons m)
+  walk-owned {rs} {f = f} g (hit {v = v} l a q w) e m =
+      ⊎-elim
+      (λ i. owned-part rs e _ i)
+      (λ n.
+      ⊎-elim
+      (λ k. owned-searches v f g e k)
+      (λ k. ⊎-elim (λ i. owned-part rs e _ i) (λ o. walk-owned g w e o) (List·Memᴰ·cases-cons k))
+      (List·Memᴰ·append-cases (searches v (at f rs)) n))
+      (List·Memᴰ·cases-cons m)
+  walk-owned {rs} g (hit-here a q w) e m = ⊎-elim (λ i. owned-part rs e _ i) (λ n. walk-owned g w e n) (List·Memᴰ·cases-cons m)
 
 pub owned : {rs : List Run} {t f : ℕ} {es : List Event} → Fit rs t → Walked rs t f es → Owned rs es
-owned g w = record { each = walk-owned g w }
+owned g w = record { each = λ e m c h. walk-owned c h g w e m }
 
-pub sum-probes : (rs : List Run) (es : List Event) → Owned rs es → total (λ r. probesIn (r .label) es) rs ≡ probesOf es
-unfolding probesIn probesOf cost
-sum-probes rs [] h = total-zero _ rs (λ r m. refl)
-sum-probes rs (e ∷ es) h =
-    let i = sum-probes rs es (record { each = λ d m. h .each d (List·Memᴰ·tail m) }) in
-    let a = total-add (λ r. probeIn (r .label) e) (λ r. cost (probeIn (r .label)) es) rs in
-    let k = h .each e (List·Memᴰ·head refl) in
+pub sum-owned : (c : Event → ℕ) → ((p : Part) → c (wrote p) ≡ 0) → (rs : List Run) (es : List Event) → Owned rs es
+    → total (λ r. cost (inRun (r .label) c) es) rs ≡ cost c es
+unfolding cost
+sum-owned c silent rs [] h = total-zero _ rs (λ r m. refl)
+sum-owned c silent rs (e ∷ es) h =
+    let i = sum-owned c silent rs es (record { each = λ d m. h .each d (List·Memᴰ·tail m) }) in
+    let a = total-add (λ r. inRun (r .label) c e) (λ r. cost (inRun (r .label) c) es) rs in
+    let k = h .each e (List·Memᴰ·head refl) c silent in
     omega arith

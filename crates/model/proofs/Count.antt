@@ -1,10 +1,11 @@
 -- Sums and counts over the runs: when two are equal, when one is at most another, when two tests share no run. Assumes nothing.
-use Prim.Native.Nat.{ℕ, zero, suc, _+_, _*_, _≤_, _<_}
+use Prim.Native.Nat.{ℕ, _+_, _*_, _≤_, _<_}
 use lib.ListN.{length}
 use mathlib.Core.Bool.{Bool, true, false, not}
 use mathlib.Core.List.{List, [], _∷_, map, List·Memᴰ, List·Memᴰ·head, List·Memᴰ·tail}
-use mathlib.Core.Logic.{_⊎_, inl, inr, ⊎-elim}
-use mathlib.Core.Path.{_≡_, refl, sym, ap, ap₂, _∙_}
+use mathlib.Core.Logic.{_⊎_, ⊎-elim}
+use mathlib.Core.Path.{_≡_, refl, ap}
+use native.Mathlib.Nat.{add-mul}
 use native.Mathlib.Omega.{arith}
 use Rattle.model.specs.Runs.{Run, total, one, count}
 use Rattle.model.proofs.Tests.{both}
@@ -33,6 +34,11 @@ pub total-add : (g h : Run → ℕ) (rs : List Run) → total (λ r. g r + h r) 
 unfolding total
 total-add g h [] = refl
 total-add g h (r ∷ rs) = let i = total-add g h rs in omega arith
+
+pub total-times : (g : Run → ℕ) (n : ℕ) (rs : List Run) → total (λ r. g r * n) rs ≡ total g rs * n
+unfolding total
+total-times g n [] = omega arith
+total-times g n (r ∷ rs) = let i = total-times g n rs in let d = add-mul (g r) (total g rs) n in omega arith
 
 pub total-map : (g : Run → ℕ) (f : Run → Run) (rs : List Run) → total g (map f rs) ≡ total (λ r. g (f r)) rs
 unfolding total

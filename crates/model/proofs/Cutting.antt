@@ -1,17 +1,17 @@
 -- A walk that a refusal ends is the first part of the whole walk: its parts are the first parts, it makes no more probes, and it is whole where no
 -- refusal ends it. An allowance that covers the whole walk's probes is never spent. Assumes nothing.
 use Prim.Native.Nat.{ℕ, zero, suc, _+_, _-_, _≤_, _<_}
-use borrow.Author.Tests.{eq-eqb, ne-eqb, eqb-true, eqb-false, lt-ltb}
+use borrow.Author.Tests.{eq-eqb, ne-eqb, lt-ltb}
 use lib.Dec.{eqb, ltb}
 use lib.ListN.{length, take, length-append}
 use lib.Seq.{take-append-seam}
-use mathlib.Core.Bool.{Bool, true, false}
-use mathlib.Core.List.{List, [], _∷_, _++_, List·Memᴰ, List·Memᴰ·head, List·Memᴰ·tail, Memᴰ·append-left}
+use mathlib.Core.Bool.{true, false}
+use mathlib.Core.List.{List, [], _∷_, _++_, List·Memᴰ, Memᴰ·append-left}
 use mathlib.Core.Logic.{⊎-elim, _≢_}
 use mathlib.Core.Path.{_≡_, refl, sym, ap, _∙_, subst}
 use native.Mathlib.Omega.{arith}
 use Rattle.model.specs.Certificate.{Part, answer, gap, answersOf, encodePart, encode, sizeOf}
-use Rattle.model.specs.Compared.{partsOf, cost, probe, probesOf}
+use Rattle.model.specs.Compared.{partsOf, cost, doublingProbe, halvingProbe, probe, probesOf}
 use Rattle.model.specs.Many.{leftAfter}
 use Rattle.model.specs.Refusals.{Room, met, after, cut}
 use Rattle.model.specs.Walk.{Event, sought, doubled, halved, wrote}
@@ -83,7 +83,7 @@ cut-mem room es e m = let t = cut-first room es in subst (λ l. List·Memᴰ e l
 
 -- a refusal at an event is 7 only where a probe is due and none is left
 met-seven : (room : Room) (e : Event) → met room e ≡ 7 → (probe e ≡ 1) × (room .probes ≡ 0)
-unfolding met probe
+unfolding met probe doublingProbe halvingProbe
 met-seven room (sought i) h = absurd (omega arith)
 met-seven room (doubled i) h =
     (refl, ⊎-elim (λ q. q) (λ (q : room .probes ≢ 0). let z : 0 ≡ 7 = rw (ne-eqb (room .probes) 0 q, met) at h in absurd (omega arith)) (eq-or-ne (room .probes) 0))
@@ -105,7 +105,7 @@ met-seven room (wrote (gap f l m)) h =
     (both (ltb (room .bytes) 19))
 
 pub after-probes : (room : Room) (e : Event) → after room e .probes ≡ room .probes - probe e
-unfolding after probe
+unfolding after probe doublingProbe halvingProbe
 after-probes room (sought i) = omega arith
 after-probes room (doubled i) = refl
 after-probes room (halved i) = refl
@@ -127,7 +127,7 @@ cut-enough room (x ∷ es) h e =
 
 -- a walk makes no more probes than the allowance
 met-probe : (room : Room) (e : Event) → met room e ≡ 0 → probe e ≤ room .probes
-unfolding met probe
+unfolding met probe doublingProbe halvingProbe
 met-probe room (sought i) h = omega arith
 met-probe room (doubled i) h =
     ⊎-elim

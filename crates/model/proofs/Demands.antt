@@ -1,20 +1,21 @@
 -- Demands 2 and 3 for the question: every clause, for any lists and threshold that pass the first checks, any allowance and any buffers.
 -- Assumes nothing.
-use Prim.Native.Nat.{ℕ, zero, suc, _+_, _*_, _≤_, _<_, min}
+use Prim.Native.Nat.{ℕ, zero, suc, _*_, _≤_, min}
 use lib.ListN.{length, take}
-use lib.Seq.{take-append-seam, take-length}
-use mathlib.Core.List.{List, [], _∷_, _++_, List·Memᴰ}
+use lib.Seq.{take-append-seam}
+use mathlib.Core.List.{List, List·Memᴰ}
 use mathlib.Core.Logic.{_≢_}
 use mathlib.Core.Path.{_≡_, refl, sym, ap, _∙_, subst}
 use native.Mathlib.Nat.{le-trans, mul-le-mul-right}
 use native.Mathlib.Omega.{arith}
 use Rattle.model.specs.Certificate.{Part, answersOf, encode, TrueCertificate}
-use Rattle.model.specs.Compared.{wholeWalk, partsOf, wholeCertificate, probeIn, probesIn, probesOf, digits, boundOf, boundIn, bound}
-use Rattle.model.specs.Demands.{Fits, answersIn, partsIn, bytesIn, probesMade, refusedBy, Exact, Certified, Demand2, Bounded, Demand3}
+use Rattle.model.specs.Compared.{wholeWalk, partsOf, wholeCertificate, doublingProbe, halvingProbe, probe, doublingsOf, halvingsOf, probesOf, inRun, doublingsIn, halvingsIn, probesIn, digits, boundOf, boundIn, bound}
+use Rattle.model.specs.Demands.{Fits, answersIn, partsIn, bytesIn, doublingsMade, halvingsMade, refusedBy, Exact, Certified, Demand2, Bounded, Demand3}
 use Rattle.model.specs.Refusals.{passed, firstChecks, Room, Ended, cut, cutWalk, over, outcomeOf, query}
 use Rattle.model.specs.Runs.{Run, firstBin, pastBin, runs, total}
 use Rattle.model.specs.Walk.{Event, walk}
-use Rattle.model.proofs.Bounds.{walk-probes, owned, sum-probes}
+use Rattle.model.proofs.Bounds.{walk-probes, Owned, owned, sum-owned}
+use Rattle.model.proofs.Events.{both-kinds}
 use Rattle.model.proofs.Count.{total-le}
 use Rattle.model.proofs.Cutting.{cut-whole, cut-parts, cut-few, cut-cost, cut-mem, cut-enough}
 use Rattle.model.proofs.Exact.{exact}
@@ -68,10 +69,15 @@ unfolding outcomeOf bytesIn
 outcome-bytes es zero = refl
 outcome-bytes es (suc n) = refl
 
-outcome-probes : (es : List Event) (n : ℕ) → probesMade (outcomeOf (record { events = es; refused = n })) ≡ probesOf es
-unfolding outcomeOf probesMade
-outcome-probes es zero = refl
-outcome-probes es (suc n) = refl
+outcome-doublings : (es : List Event) (n : ℕ) → doublingsMade (outcomeOf (record { events = es; refused = n })) ≡ doublingsOf es
+unfolding outcomeOf doublingsMade
+outcome-doublings es zero = refl
+outcome-doublings es (suc n) = refl
+
+outcome-halvings : (es : List Event) (n : ℕ) → halvingsMade (outcomeOf (record { events = es; refused = n })) ≡ halvingsOf es
+unfolding outcomeOf halvingsMade
+outcome-halvings es zero = refl
+outcome-halvings es (suc n) = refl
 
 outcome-refused : (es : List Event) (n : ℕ) → refusedBy (outcomeOf (record { events = es; refused = n })) ≡ n
 unfolding outcomeOf refusedBy
@@ -79,6 +85,21 @@ outcome-refused es zero = refl
 outcome-refused es (suc n) = refl
 
 -- ---- a walk up to where it ends
+
+-- The probes of events that are the runs', and those of either kind, are the sums over the runs.
+pub record Summed (rs : List Run) (es : List Event) : Type 0 where
+  pub probes : probesOf es ≡ total (λ r. probesIn (r .label) es) rs
+  pub doublings : doublingsOf es ≡ total (λ r. doublingsIn (r .label) es) rs
+  pub halvings : halvingsOf es ≡ total (λ r. halvingsIn (r .label) es) rs
+
+summed : (rs : List Run) (es : List Event) → Owned rs es → Summed rs es
+unfolding probesOf doublingsOf halvingsOf probesIn doublingsIn halvingsIn probe doublingProbe halvingProbe
+summed rs es o =
+    record {
+      probes = sym (sum-owned probe (λ p. refl) rs es o);
+      doublings = sym (sum-owned doublingProbe (λ p. refl) rs es o);
+      halvings = sym (sum-owned halvingProbe (λ p. refl) rs es o);
+    }
 
 module _ (rs : List Run) (t : ℕ) (room : Room) where
   abbrev ended : Ended
@@ -88,7 +109,7 @@ module _ (rs : List Run) (t : ℕ) (room : Room) where
   pub cut-unspent : Fit rs t → (b : Run → ℕ) → ((r : Run) → List·Memᴰ r rs → probesIn (r .label) (wholeWalk t rs) ≤ b r) → total b rs ≤ room .probes
       → ended .refused ≢ 7
   cut-unspent g b h l e =
-      let s = sum-probes rs (wholeWalk t rs) (owned g (whole-walked g)) in
+      let s = summed rs (wholeWalk t rs) (owned g (whole-walked g)) .probes in
       let k = total-le (λ r. probesIn (r .label) (wholeWalk t rs)) b rs h in
       cut-enough room (wholeWalk t rs) (omega arith) e
 
@@ -114,10 +135,10 @@ module _ (rs : List Run) (t : ℕ) (room : Room) where
       }
 
   -- the probes made are the sum over the runs
-  pub sum-made : Fit rs t → probesOf (ended .events) ≡ total (λ r. probesIn (r .label) (ended .events)) rs
+  pub sum-made : Fit rs t → Summed rs (ended .events)
   sum-made g =
       let o = owned g (whole-walked g) in
-      sym (sum-probes rs (ended .events) (record { each = λ e m. o .each e (cut-mem room (wholeWalk t rs) e m) }))
+      summed rs (ended .events) (record { each = λ e m. o .each e (cut-mem room (wholeWalk t rs) e m) })
 
   few-parts : length (partsOf (ended .events)) ≤ length (wholeCertificate t rs)
   unfolding wholeCertificate
@@ -125,10 +146,10 @@ module _ (rs : List Run) (t : ℕ) (room : Room) where
 
   pub cut-bound : (r : Run) → probesIn (r .label) (ended .events) ≤ probesIn (r .label) (wholeWalk t rs)
   unfolding probesIn
-  cut-bound r = cut-cost (probeIn (r .label)) room (wholeWalk t rs)
+  cut-bound r = cut-cost (inRun (r .label) probe) room (wholeWalk t rs)
 
   pub bounded-walk : Fit rs t → (ps : List Part) → TrueCertificate rs t ps
-      → Bounded rs t (room .probes) (ended .events) (ended .refused) (length (partsOf (ended .events))) (probesOf (ended .events))
+      → Bounded rs t (room .probes) (ended .events) (ended .refused) (length (partsOf (ended .events))) (doublingsOf (ended .events)) (halvingsOf (ended .events))
       (encode (partsOf (ended .events))) (length ps)
   unfolding bound
   bounded-walk g ps c =
@@ -141,7 +162,9 @@ module _ (rs : List Run) (t : ℕ) (room : Room) where
         few = omega arith;
         each-whole = b;
         each = λ r m. le-trans (cut-bound r) (b r m);
-        sum = sum-made g;
+        sum = sym (both-kinds (ended .events)) ∙ sum-made g .probes;
+        doubling-sum = sum-made g .doublings;
+        halving-sum = sum-made g .halvings;
         enough = cut-unspent g (boundIn (length ps)) b;
       }
 
@@ -178,7 +201,7 @@ module _ (rs : List Run) (t allowance : ℕ) (answers certificate : List ℕ) wh
       (certified-walk rs t (record { probes = allowance; answers = length answers; bytes = length certificate }) g)
 
   bounded-asked : Fit rs t → (ps : List Part) → TrueCertificate rs t ps
-      → Bounded rs t allowance (asked .events) (refusedBy (outcomeOf asked)) (partsIn (outcomeOf asked)) (probesMade (outcomeOf asked))
+      → Bounded rs t allowance (asked .events) (refusedBy (outcomeOf asked)) (partsIn (outcomeOf asked)) (doublingsMade (outcomeOf asked)) (halvingsMade (outcomeOf asked))
       (take (bytesIn (outcomeOf asked)) (over (encode (partsOf (asked .events))) certificate)) (length ps)
   unfolding asked cutWalk
   bounded-asked g ps c =
@@ -186,7 +209,8 @@ module _ (rs : List Run) (t allowance : ℕ) (answers certificate : List ℕ) wh
         certificate-front,
         outcome-refused (asked .events) (asked .refused),
         outcome-parts (asked .events) (asked .refused),
-        outcome-probes (asked .events) (asked .refused),
+        outcome-doublings (asked .events) (asked .refused),
+        outcome-halvings (asked .events) (asked .refused),
       )
       (bounded-walk rs t (record { probes = allowance; answers = length answers; bytes = length certificate }) g ps c)
 

@@ -192,12 +192,12 @@ unfolding Roomy
 walk-room room es a b = let s = sizes-bytes (partsOf es) in cut-roomy room es a (omega arith)
 
 -- an ended walk that 5 and 6 did not end is refused as 7 only
-ended-roomy : (es : List Event) (r n p a b q : ℕ) → (r ≡ 0) ⊎ (r ≡ 7) → outcomeOf (record { events = es; refused = r }) ≡ refused n p a b q → n ≡ 7
+ended-roomy : (es : List Event) (r n p a b d h : ℕ) → (r ≡ 0) ⊎ (r ≡ 7) → outcomeOf (record { events = es; refused = r }) ≡ refused n p a b d h → n ≡ 7
 unfolding outcomeOf
-ended-roomy es zero n p a b q h o = absurd (let z : _≡_ {A = ℕ} 0 1 = cc in omega arith)
-ended-roomy es (suc r) n p a b q h o =
+ended-roomy es zero n p a b d h k o = absurd (let z : _≡_ {A = ℕ} 0 1 = cc in omega arith)
+ended-roomy es (suc r) n p a b d h k o =
     let e : suc r ≡ n = cc in
-    ⊎-elim (λ (i : suc r ≡ 0). absurd (omega arith)) (λ (i : suc r ≡ 7). omega arith) h
+    ⊎-elim (λ (i : suc r ≡ 0). absurd (omega arith)) (λ (i : suc r ≡ 7). omega arith) k
 
 -- ---- the first checks refuse by 1 to 4
 
@@ -262,20 +262,20 @@ module _ (numbers ends : List ℕ) (t allowance : ℕ) (answers certificate : Li
       walk-room _ (wholeWalk t (runs numbers ends)) (le-trans (k .0) room) (le-trans (k .1) bytes)
 
   -- A question that passes the first checks is accepted or refused as 7: refusals 5 and 6 never occur.
-  pub room-enough : firstChecks numbers ends t ≡ passed → (n p a b q : ℕ)
-      → query numbers ends t allowance answers certificate .outcome ≡ refused n p a b q → n ≡ 7
+  pub room-enough : firstChecks numbers ends t ≡ passed → (n p a b d h : ℕ)
+      → query numbers ends t allowance answers certificate .outcome ≡ refused n p a b d h → n ≡ 7
   unfolding query cutWalk Roomy
-  room-enough e n p a b q o =
+  room-enough e n p a b d h o =
       let ended = cutWalk t (runs numbers ends) allowance (length answers) (length certificate) in
-      ended-roomy (ended .events) (ended .refused) n p a b q (walk-roomy e) (rw (e, query) at o)
+      ended-roomy (ended .events) (ended .refused) n p a b d h (walk-roomy e) (rw (e, query) at o)
 
   -- Of any question that is refused the number is 1, 2, 3, 4 or 7.
-  pub refused-numbers : (n p a b q : ℕ) → query numbers ends t allowance answers certificate .outcome ≡ refused n p a b q
+  pub refused-numbers : (n p a b d h : ℕ) → query numbers ends t allowance answers certificate .outcome ≡ refused n p a b d h
       → ((1 ≤ n) × (n ≤ 4)) ⊎ (n ≡ 7)
   unfolding refusedBy
-  refused-numbers n p a b q o =
+  refused-numbers n p a b d h o =
       let i = ap refusedBy o in
       ⊎-elim
-      (λ e. inr (room-enough e n p a b q o))
+      (λ e. inr (room-enough e n p a b d h o))
       (λ k. inl (omega (arith, k .0), omega (arith, k .1)))
       (passed-or-refused numbers ends t allowance answers certificate)

@@ -1,14 +1,14 @@
 -- What a walk does: its parts and costs over an append, and those of searches. Assumes nothing.
-use Prim.Native.Nat.{ℕ, zero, suc, _+_, _*_, _≤_, _<_}
+use Prim.Native.Nat.{ℕ, zero, suc, _+_, _*_}
 use lib.Dec.{ltb}
-use lib.ListN.{length, replicate}
-use mathlib.Core.Bool.{Bool, true, false}
+use lib.ListN.{replicate}
+use mathlib.Core.Bool.{true, false}
 use mathlib.Core.List.{List, [], _∷_, _++_}
 use mathlib.Core.Logic.{⊎-elim}
-use mathlib.Core.Path.{_≡_, refl, sym, ap, _∙_}
+use mathlib.Core.Path.{_≡_, refl, ap, _∙_}
 use native.Mathlib.Omega.{arith}
 use Rattle.model.specs.Certificate.{Part}
-use Rattle.model.specs.Compared.{partsOf, cost}
+use Rattle.model.specs.Compared.{partsOf, cost, doublingProbe, halvingProbe, probe, doublingsOf, halvingsOf, probesOf}
 use Rattle.model.specs.Runs.{Run, total}
 use Rattle.model.specs.Walk.{Event, sought, doubled, halved, wrote, head, seek, searchIn, searches}
 use Rattle.model.proofs.Tests.{both}
@@ -17,6 +17,16 @@ pub cost-append : (c : Event → ℕ) (ds bs : List Event) → cost c (ds ++ bs)
 unfolding cost
 cost-append c [] bs = omega arith
 cost-append c (e ∷ ds) bs = let i = cost-append c ds bs in omega arith
+
+pub cost-add : (c d : Event → ℕ) (es : List Event) → cost (λ e. c e + d e) es ≡ cost c es + cost d es
+unfolding cost
+cost-add c d [] = refl
+cost-add c d (e ∷ es) = let i = cost-add c d es in omega arith
+
+-- every probe is of one kind
+pub both-kinds : (es : List Event) → probesOf es ≡ doublingsOf es + halvingsOf es
+unfolding probesOf probe doublingsOf halvingsOf
+both-kinds es = cost-add doublingProbe halvingProbe es
 
 pub cost-replicate : (c : Event → ℕ) (n : ℕ) (e : Event) → cost c (replicate n e) ≡ n * c e
 unfolding cost

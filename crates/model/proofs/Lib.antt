@@ -20,6 +20,7 @@ pub mod ManyChecks
 pub mod ManyDemands
 pub mod ManyEnough
 pub mod Masks
+pub mod Quiet
 pub mod Rounds
 pub mod Searching
 pub mod Slices

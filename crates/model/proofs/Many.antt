@@ -2,7 +2,6 @@
 -- end; the result row tells where each one's answers and bytes end in the buffers. Assumes nothing.
 use Prim.Native.Nat.{ℕ, zero, suc, _+_, _-_, _*_, _≤_, _<_}
 use borrow.Author.Tests.{lt-ltb, le-ltb, eq-eqb, ne-eqb}
-use lib.Dec.{ltb, eqb}
 use lib.ListN.{length, getD, take, drop, length-append, List·getD-append}
 use lib.Seq.{take-append-seam, drop-append-add}
 use mathlib.Core.List.{List, [], _∷_, _++_, append-assoc}
@@ -10,9 +9,9 @@ use mathlib.Core.Logic.{⊎-elim, _≢_}
 use mathlib.Core.Path.{_≡_, refl, sym, ap, _∙_, subst}
 use native.Mathlib.Omega.{arith}
 use Rattle.model.specs.Certificate.{Part, answer, gap, answersOf, encodePart, encode}
-use Rattle.model.specs.Compared.{wholeWalk, partsOf, probe, cost, probesOf}
-use Rattle.model.specs.Many.{ManyCheck, all-passed, refusal-in, leftAfter, walks, eventsOf, ending, reached, ManyOutcome, manyOutcome}
-use Rattle.model.specs.ManyDemands.{allAnswers, allParts, allBytes, allProbes, finishedOf, begunOf, endedBy, partsOfQuestion, endIn, startIn, ownIn, walkOf, sumTo}
+use Rattle.model.specs.Compared.{wholeWalk, partsOf, cost, probesOf}
+use Rattle.model.specs.Many.{ManyCheck, all-passed, refusal-in, leftAfter, walks, eventsOf, ending, reached, manyOutcome}
+use Rattle.model.specs.ManyDemands.{allAnswers, allBytes, finishedOf, begunOf, endedBy, partsOfQuestion, endIn, startIn, ownIn, walkOf, sumTo}
 use Rattle.model.specs.Refusals.{Room, after, Ended, cut, over}
 use Rattle.model.specs.Runs.{Run, slice, chosen}
 use Rattle.model.specs.Walk.{Event}
@@ -113,10 +112,10 @@ module _ (wr : List Event → List ℕ) (w : Writing wr) where
       rw (w .more (e .events) (eventsOf es), append-assoc (wr (e .events)) (wr (eventsOf es)) rest)
       ((λ k. take (d k) (drop-append-add (wr (e .events)) (wr (eventsOf es) ++ rest) b k)) ∙ i)
 
-pub all-probes : (ws : List Ended) → probesOf (eventsOf ws) ≡ sumTo (length ws) (λ i. probesOf (walkOf ws i))
-unfolding eventsOf sumTo walkOf probesOf cost
-all-probes [] = refl
-all-probes (e ∷ es) = let i = all-probes es in let a = cost-append probe (e .events) (eventsOf es) in omega arith
+pub all-cost : (c : Event → ℕ) (ws : List Ended) → cost c (eventsOf ws) ≡ sumTo (length ws) (λ i. cost c (walkOf ws i))
+unfolding eventsOf sumTo walkOf cost
+all-cost c [] = refl
+all-cost c (e ∷ es) = let i = all-cost c es in let a = cost-append c (e .events) (eventsOf es) in omega arith
 
 -- ---- the walks
 

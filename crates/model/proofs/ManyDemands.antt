@@ -1,23 +1,25 @@
 -- Demands 2 and 3 for a call with many questions: every clause, for any runs, masks and thresholds that pass the first checks, any allowance and any buffers.
 -- Assumes nothing.
-use Prim.Native.Nat.{ℕ, zero, suc, _+_, _-_, _*_, _≤_, _<_}
+use Prim.Native.Nat.{ℕ, suc, _+_, _-_, _≤_, _<_}
 use lib.ListN.{length, getD}
-use mathlib.Core.List.{List, [], _∷_, List·Memᴰ}
+use mathlib.Core.List.{List, List·Memᴰ}
 use mathlib.Core.Logic.{_≢_}
-use mathlib.Core.Path.{_≡_, refl, sym, ap, _∙_, subst}
+use mathlib.Core.Path.{_≡_, refl, sym, ap, ap₂, _∙_, subst}
 use native.Mathlib.Nat.{le-trans}
 use native.Mathlib.Omega.{arith}
 use Rattle.model.specs.Certificate.{Part, answersOf, encode, TrueCertificate}
-use Rattle.model.specs.Compared.{wholeWalk, partsOf, wholeCertificate, probesIn, probesOf, boundIn, bound}
+use Rattle.model.specs.Compared.{wholeWalk, partsOf, wholeCertificate, cost, doublingProbe, halvingProbe, probe, doublingsOf, halvingsOf, probesOf, doublingsIn, halvingsIn, probesIn, boundIn, bound}
 use Rattle.model.specs.Demands.{Fits, Certified, Bounded}
 use Rattle.model.specs.Many.{ManyCheck, all-passed, refusal-in, manyChecks, eventsOf, ending, reached, manyOutcome, answeredMany, walksOf, queryMany}
-use Rattle.model.specs.ManyDemands.{allAnswers, allParts, allBytes, allProbes, callRefusedBy, finishedOf, begunOf, endedBy, partsOfQuestion, ownIn, runsOf, walkOf, sumTo, ManyDemand2, ManyBounded, ManyDemand3}
-use Rattle.model.specs.Refusals.{Room, Ended, cut, over}
+use Rattle.model.specs.ManyDemands.{allAnswers, allParts, allBytes, allDoublings, allHalvings, callRefusedBy, finishedOf, begunOf, endedBy, partsOfQuestion, ownIn, runsOf, walkOf, sumTo, ManyDemand2, ManyBounded, ManyDemand3}
+use Rattle.model.specs.Refusals.{Ended, cut, over}
 use Rattle.model.specs.Runs.{Run, pastBin, runs, chosen, total}
+use Rattle.model.specs.Walk.{Event}
 use Rattle.model.proofs.Count.{total-le}
-use Rattle.model.proofs.Demands.{whole-fewest, whole-bound, cut-unspent, cut-bound, sum-made, certified-walk, bounded-walk}
+use Rattle.model.proofs.Demands.{whole-fewest, whole-bound, cut-unspent, cut-bound, Summed, sum-made, certified-walk, bounded-walk}
+use Rattle.model.proofs.Events.{both-kinds}
 use Rattle.model.proofs.FirstChecks.{chosen-fit}
-use Rattle.model.proofs.Many.{unbegun, sum-suc, sum-same, sum-le, sum-more, parts-writing, all-size, all-probes, Asked, asked, Ending, finished, stopped, walks-end, begun-all, ended-by, own-parts, own-answers, own-bytes}
+use Rattle.model.proofs.Many.{unbegun, sum-suc, sum-same, sum-le, sum-more, parts-writing, all-size, all-cost, Asked, asked, Ending, finished, stopped, walks-end, begun-all, ended-by, own-parts, own-answers, own-bytes}
 use Rattle.model.proofs.ManyChecks.{ManyPassed, many-passed}
 use Rattle.model.proofs.Truth.{Fit}
 
@@ -65,17 +67,17 @@ module _ (numbers ends masks thresholds : List ℕ) (allowance : ℕ) (answers c
 
   bounded : (q : ℕ) → q < length ws → (ps : List Part) → TrueCertificate (runsOf numbers ends masks q) (getD thresholds q 0) ps
       → Bounded (runsOf numbers ends masks q) (getD thresholds q 0) (allowance - sumTo q (λ i. probesOf (walkOf ws i))) (walkOf ws q)
-      (getD ws q unbegun .refused) (length (partsOf (walkOf ws q))) (probesOf (walkOf ws q)) (encode (partsOf (walkOf ws q))) (length ps)
+      (getD ws q unbegun .refused) (length (partsOf (walkOf ws q))) (doublingsOf (walkOf ws q)) (halvingsOf (walkOf ws q)) (encode (partsOf (walkOf ws q))) (length ps)
   unfolding runsOf walkOf
   bounded q h ps t =
       let a = begun q h in
       subst
       (λ (n : ℕ). Bounded (runsOf numbers ends masks q) (getD thresholds q 0) n (walkOf ws q) (getD ws q unbegun .refused)
-      (length (partsOf (walkOf ws q))) (probesOf (walkOf ws q)) (encode (partsOf (walkOf ws q))) (length ps))
+      (length (partsOf (walkOf ws q))) (doublingsOf (walkOf ws q)) (halvingsOf (walkOf ws q)) (encode (partsOf (walkOf ws q))) (length ps))
       (a .probes)
       (subst
       (λ (e : Ended). Bounded (runsOf numbers ends masks q) (getD thresholds q 0) (a .left .probes) (e .events) (e .refused) (length (partsOf (e .events)))
-      (probesOf (e .events)) (encode (partsOf (e .events))) (length ps))
+      (doublingsOf (e .events)) (halvingsOf (e .events)) (encode (partsOf (e .events))) (length ps))
       (sym (a .is)) (bounded-walk (runsOf numbers ends masks q) (getD thresholds q 0) (a .left) (question-fit q h) ps t))
 
   parts-are : (q : ℕ) → q < length ws
@@ -108,7 +110,8 @@ module _ (numbers ends masks thresholds : List ℕ) (allowance : ℕ) (answers c
       → (q : ℕ) → q < begunOf (length masks) (manyOutcome c (eventsOf ws))
       → Bounded (runsOf numbers ends masks q) (getD thresholds q 0) (allowance - sumTo q (λ i. probesOf (walkOf ws i))) (walkOf ws q)
       (endedBy (manyOutcome c (eventsOf ws)) q)
-      (partsOfQuestion (manyOutcome c (eventsOf ws)) (length (wholeCertificate (getD thresholds q 0) (runsOf numbers ends masks q))) q) (probesOf (walkOf ws q))
+      (partsOfQuestion (manyOutcome c (eventsOf ws)) (length (wholeCertificate (getD thresholds q 0) (runsOf numbers ends masks q))) q) (doublingsOf (walkOf ws q))
+      (halvingsOf (walkOf ws q))
       (ownIn (over (encode (partsOf (eventsOf ws))) certificate) (over (reached 0 0 ws) results) (finishedOf (length masks) (manyOutcome c (eventsOf ws)))
       (allBytes (manyOutcome c (eventsOf ws))) 1 q) (length (ps q))
   bounded-each ps t q h =
@@ -130,19 +133,42 @@ module _ (numbers ends masks thresholds : List ℕ) (allowance : ℕ) (answers c
       all-parts all-passed = refl
       all-parts (refusal-in q n i) = refl
 
-  probes-sum : allProbes (manyOutcome c (eventsOf ws))
-      ≡ sumTo (begunOf (length masks) (manyOutcome c (eventsOf ws))) (λ q. total (λ r. probesIn (r .label) (walkOf ws q)) (runsOf numbers ends masks q))
-  unfolding allProbes manyOutcome
-  probes-sum =
-      rw (begun-all ws (length masks) c end) (all-made c ∙ (all-probes ws ∙ sum-same (length ws) _ _ (λ q h. made q h)))
-    where
-      all-made : (d : ManyCheck) → allProbes (manyOutcome d (eventsOf ws)) ≡ probesOf (eventsOf ws)
-      all-made all-passed = refl
-      all-made (refusal-in q n i) = refl
+  summed : (q : ℕ) → q < length ws → Summed (runsOf numbers ends masks q) (walkOf ws q)
+  unfolding runsOf walkOf
+  summed q h =
+      let a = begun q h in
+      subst (λ (e : Ended). Summed (runsOf numbers ends masks q) (e .events)) (sym (a .is))
+      (sum-made (runsOf numbers ends masks q) (getD thresholds q 0) (a .left) (question-fit q h))
 
-      made : (q : ℕ) → q < length ws → probesOf (walkOf ws q) ≡ total (λ r. probesIn (r .label) (walkOf ws q)) (runsOf numbers ends masks q)
-      made q h =
-          bounded q h (wholeCertificate (getD thresholds q 0) (runsOf numbers ends masks q)) (certified q h .whole-true) .sum
+  counted : (k : Event → ℕ) (f : ℕ → ℕ) → ((q : ℕ) → q < length ws → cost k (walkOf ws q) ≡ f q)
+      → cost k (eventsOf ws) ≡ sumTo (begunOf (length masks) (manyOutcome c (eventsOf ws))) f
+  counted k f h = rw (begun-all ws (length masks) c end) (all-cost k ws ∙ sum-same (length ws) _ _ h)
+
+  made-doublings : (d : ManyCheck) → allDoublings (manyOutcome d (eventsOf ws)) ≡ doublingsOf (eventsOf ws)
+  unfolding allDoublings manyOutcome
+  made-doublings all-passed = refl
+  made-doublings (refusal-in q n i) = refl
+
+  made-halvings : (d : ManyCheck) → allHalvings (manyOutcome d (eventsOf ws)) ≡ halvingsOf (eventsOf ws)
+  unfolding allHalvings manyOutcome
+  made-halvings all-passed = refl
+  made-halvings (refusal-in q n i) = refl
+
+  doublings-sum : allDoublings (manyOutcome c (eventsOf ws))
+      ≡ sumTo (begunOf (length masks) (manyOutcome c (eventsOf ws))) (λ q. total (λ r. doublingsIn (r .label) (walkOf ws q)) (runsOf numbers ends masks q))
+  unfolding doublingsOf
+  doublings-sum = made-doublings c ∙ counted doublingProbe _ (λ q h. summed q h .doublings)
+
+  halvings-sum : allHalvings (manyOutcome c (eventsOf ws))
+      ≡ sumTo (begunOf (length masks) (manyOutcome c (eventsOf ws))) (λ q. total (λ r. halvingsIn (r .label) (walkOf ws q)) (runsOf numbers ends masks q))
+  unfolding halvingsOf
+  halvings-sum = made-halvings c ∙ counted halvingProbe _ (λ q h. summed q h .halvings)
+
+  probes-sum : allDoublings (manyOutcome c (eventsOf ws)) + allHalvings (manyOutcome c (eventsOf ws))
+      ≡ sumTo (begunOf (length masks) (manyOutcome c (eventsOf ws))) (λ q. total (λ r. probesIn (r .label) (walkOf ws q)) (runsOf numbers ends masks q))
+  unfolding probesOf
+  probes-sum =
+      ap₂ _+_ (made-doublings c) (made-halvings c) ∙ (sym (both-kinds (eventsOf ws)) ∙ counted probe _ (λ q h. summed q h .probes))
 
   -- Given a bound of each run's probes in each question, an allowance no smaller than their sum is never spent.
   module _ (b : ℕ → Run → ℕ)
@@ -155,7 +181,7 @@ module _ (numbers ends masks thresholds : List ℕ) (allowance : ℕ) (answers c
         let a = begun q h in
         let k = total-le (λ r. probesIn (r .label) (cut (a .left) (wholeWalk (getD thresholds q 0) (runsOf numbers ends masks q)) .events)) (b q) (runsOf numbers ends masks q)
         (λ r m. le-trans (cut-bound (runsOf numbers ends masks q) (getD thresholds q 0) (a .left) r) (each-run q h r m)) in
-        let s = sum-made (runsOf numbers ends masks q) (getD thresholds q 0) (a .left) (question-fit q h) in
+        let s = sum-made (runsOf numbers ends masks q) (getD thresholds q 0) (a .left) (question-fit q h) .probes in
         let e = ap (λ (x : Ended). probesOf (x .events)) (a .is) in
         omega arith
 
@@ -218,6 +244,8 @@ module _ (numbers ends masks thresholds : List ℕ) (allowance : ℕ) (answers c
         each = bounded-each ps t;
         parts = parts-sum;
         probes = probes-sum;
+        doublings = doublings-sum;
+        halvings = halvings-sum;
         enough = bounds-enough ps t;
       })
 

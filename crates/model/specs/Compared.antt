@@ -1,6 +1,6 @@
 -- docs/SPECIFICATION.md, 'The promises': the whole walk, its certificate, each run's probes, binary digits, the bound. Definitions only.
 use Prim.Native.Nat.{ℕ, zero, suc, _+_, _*_, _^_}
-use mathlib.Core.Bool.{Bool, true, false}
+use mathlib.Core.Bool.{true, false}
 use mathlib.Core.List.{List, [], _∷_}
 use lib.ListN.{length}
 use lib.Dec.{ltb, eqb}
@@ -29,24 +29,46 @@ unfoldable pub cost : (Event → ℕ) → List Event → ℕ
 cost c [] = 0
 cost c (e ∷ es) = c e + cost c es
 
--- A run's probes are those of the searches in that run, each counted once.
-unfoldable pub probeIn : ℕ → Event → ℕ
-probeIn i (sought j) = 0
-probeIn i (doubled j) = one (eqb i j)
-probeIn i (halved j) = one (eqb i j)
-probeIn i (wrote p) = 0
+-- A probe is made by doubling or by halving. (1 for a probe of the one kind, of the other, and of either.)
+unfoldable pub doublingProbe : Event → ℕ
+doublingProbe (sought i) = 0
+doublingProbe (doubled i) = 1
+doublingProbe (halved i) = 0
+doublingProbe (wrote p) = 0
 
-unfoldable pub probesIn : ℕ → List Event → ℕ
-probesIn i es = cost (probeIn i) es
+unfoldable pub halvingProbe : Event → ℕ
+halvingProbe (sought i) = 0
+halvingProbe (doubled i) = 0
+halvingProbe (halved i) = 1
+halvingProbe (wrote p) = 0
 
 unfoldable pub probe : Event → ℕ
-probe (sought i) = 0
-probe (doubled i) = 1
-probe (halved i) = 1
-probe (wrote p) = 0
+probe e = doublingProbe e + halvingProbe e
+
+unfoldable pub doublingsOf : List Event → ℕ
+doublingsOf es = cost doublingProbe es
+
+unfoldable pub halvingsOf : List Event → ℕ
+halvingsOf es = cost halvingProbe es
 
 unfoldable pub probesOf : List Event → ℕ
 probesOf es = cost probe es
+
+-- A run's probes are those of the searches in that run, each counted once. (Here: of what is counted, what is done in run i.)
+unfoldable pub inRun : ℕ → (Event → ℕ) → Event → ℕ
+inRun i c (sought j) = one (eqb i j) * c (sought j)
+inRun i c (doubled j) = one (eqb i j) * c (doubled j)
+inRun i c (halved j) = one (eqb i j) * c (halved j)
+inRun i c (wrote p) = 0
+
+unfoldable pub doublingsIn : ℕ → List Event → ℕ
+doublingsIn i es = cost (inRun i doublingProbe) es
+
+unfoldable pub halvingsIn : ℕ → List Event → ℕ
+halvingsIn i es = cost (inRun i halvingProbe) es
+
+unfoldable pub probesIn : ℕ → List Event → ℕ
+probesIn i es = cost (inRun i probe) es
 
 -- The binary digits of n are the least b for which n is below 2 to the power b. (n is below 2 to the power n.)
 unfoldable pub digitsFrom : ℕ → ℕ → ℕ → ℕ

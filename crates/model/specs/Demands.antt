@@ -1,12 +1,12 @@
 -- The customer's demands 2 and 3 as statements, each about what a call returns and leaves in its buffers. Definitions only.
-use Prim.Native.Nat.{ℕ, suc, _*_, _≤_, _<_}
-use mathlib.Core.List.{List, [], _∷_, List·Memᴰ}
+use Prim.Native.Nat.{ℕ, _+_, _≤_, _<_}
+use mathlib.Core.List.{List, List·Memᴰ}
 use mathlib.Core.Logic.{_≢_, _↔_}
 use mathlib.Core.Option.{none}
 use mathlib.Core.Path.{_≡_}
 use lib.ListN.{length, take}
 use Rattle.model.specs.Certificate.{Part, answersOf, encode, TrueCertificate}
-use Rattle.model.specs.Compared.{wholeWalk, wholeCertificate, probesIn, boundIn, bound}
+use Rattle.model.specs.Compared.{wholeWalk, wholeCertificate, doublingsIn, halvingsIn, probesIn, boundIn, bound}
 use Rattle.model.specs.Refusals.{passed, firstChecks, cutWalk, Outcome, accepted, refused, Verdict, valid}
 use Rattle.model.specs.Runs.{Run, runs, unrisen, holds, total, count}
 use Rattle.model.specs.Walk.{Event}
@@ -15,27 +15,31 @@ use Rattle.model.specs.Walk.{Event}
 pub record Fits (w : ℕ) (row : List ℕ) : Type 0 where
   pub each : (x : ℕ) → List·Memᴰ x row → x < w
 
--- What an outcome returns: the answers, parts, bytes and probes, the part count of a walk refusal being its place.
+-- What an outcome returns: the answers, parts, bytes and probes of either kind, the part count of a walk refusal being its place.
 unfoldable pub answersIn : Outcome → ℕ
-answersIn (accepted a n b q) = a
-answersIn (refused x n a b q) = a
+answersIn (accepted a n b d h) = a
+answersIn (refused x n a b d h) = a
 
 unfoldable pub partsIn : Outcome → ℕ
-partsIn (accepted a n b q) = n
-partsIn (refused x n a b q) = n
+partsIn (accepted a n b d h) = n
+partsIn (refused x n a b d h) = n
 
 unfoldable pub bytesIn : Outcome → ℕ
-bytesIn (accepted a n b q) = b
-bytesIn (refused x n a b q) = b
+bytesIn (accepted a n b d h) = b
+bytesIn (refused x n a b d h) = b
 
-unfoldable pub probesMade : Outcome → ℕ
-probesMade (accepted a n b q) = q
-probesMade (refused x n a b q) = q
+unfoldable pub doublingsMade : Outcome → ℕ
+doublingsMade (accepted a n b d h) = d
+doublingsMade (refused x n a b d h) = d
+
+unfoldable pub halvingsMade : Outcome → ℕ
+halvingsMade (accepted a n b d h) = h
+halvingsMade (refused x n a b d h) = h
 
 -- the refusal's number, 0 where the question is accepted
 unfoldable pub refusedBy : Outcome → ℕ
-refusedBy (accepted a n b q) = 0
-refusedBy (refused x n a b q) = x
+refusedBy (accepted a n b d h) = 0
+refusedBy (refused x n a b d h) = x
 
 -- The answers are all the bins held by at least t lists, and no others, rising, each once.
 pub record Exact (rs : List Run) (t : ℕ) (answers : List ℕ) : Type 0 where
@@ -71,15 +75,17 @@ pub record Accepts (rs : List Run) (t : ℕ) (certificate : List ℕ) (v : Verdi
 
 -- Demand 3, for a certificate of d parts, of a walk with an allowance, which did these events, which a refusal of this number ended, 0 where none did, and
 -- which wrote these bytes. The walk's whole certificate has at most d parts, and so no more are written by a walk that stops early. In a list of n numbers
--- the walk makes at most 2 × d × b probes. The probes are the sum over the lists of those that the walk makes up to where it ends, early or not. An allowance
--- no smaller than the sum of these bounds over all lists never ends as spent.
-pub record Bounded (rs : List Run) (t allowance : ℕ) (done : List Event) (number parts probes : ℕ) (bytes : List ℕ) (d : ℕ) : Type 0 where
+-- the walk makes at most 2 × d × b probes. The probes are the sum over the lists of those that the walk makes up to where it ends, early or not, and so are
+-- those of either kind. An allowance no smaller than the sum of these bounds over all lists never ends as spent.
+pub record Bounded (rs : List Run) (t allowance : ℕ) (done : List Event) (number parts doublings halvings : ℕ) (bytes : List ℕ) (d : ℕ) : Type 0 where
   pub fewest : length (wholeCertificate t rs) ≤ d
   pub written : bytes ≡ encode (take parts (wholeCertificate t rs))
   pub few : parts ≤ d
   pub each-whole : (r : Run) → List·Memᴰ r rs → probesIn (r .label) (wholeWalk t rs) ≤ boundIn d r
   pub each : (r : Run) → List·Memᴰ r rs → probesIn (r .label) done ≤ boundIn d r
-  pub sum : probes ≡ total (λ r. probesIn (r .label) done) rs
+  pub sum : doublings + halvings ≡ total (λ r. probesIn (r .label) done) rs
+  pub doubling-sum : doublings ≡ total (λ r. doublingsIn (r .label) done) rs
+  pub halving-sum : halvings ≡ total (λ r. halvingsIn (r .label) done) rs
   pub enough : bound d rs ≤ allowance → number ≢ 7
 
 -- Demand 3 whole: for all lists and every threshold that pass the first checks, for every true certificate of them, whoever wrote it, and whatever
@@ -87,4 +93,4 @@ pub record Bounded (rs : List Run) (t allowance : ℕ) (done : List Event) (numb
 pub record Demand3 (numbers ends : List ℕ) (t allowance : ℕ) (answers before : List ℕ) (o : Outcome) (after : List ℕ) : Type 0 where
   pub for-every : firstChecks numbers ends t ≡ passed → (ps : List Part) → TrueCertificate (runs numbers ends) t ps
       → Bounded (runs numbers ends) t allowance (cutWalk t (runs numbers ends) allowance (length answers) (length before) .events)
-      (refusedBy o) (partsIn o) (probesMade o) (take (bytesIn o) after) (length ps)
+      (refusedBy o) (partsIn o) (doublingsMade o) (halvingsMade o) (take (bytesIn o) after) (length ps)

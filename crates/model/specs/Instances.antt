@@ -1,9 +1,10 @@
--- docs/SPECIFICATION.md, 'Instances': the starred ones, the last of which tells rounding the halving place down from rounding it up.
+-- docs/SPECIFICATION.md, 'Instances': the starred ones, with one that tells rounding the halving place down from rounding it up and some that tell the two
+-- kinds of probes.
 -- Definitions only.
 use Prim.Native.Nat.{ℕ}
 use mathlib.Core.List.{List, [], _∷_, _++_, map}
 use mathlib.Core.Path.{_≡_}
-use lib.ListN.{length, take, replicate}
+use lib.ListN.{take, replicate}
 use Rattle.model.specs.Certificate.{Part, answer, gap, answersOf, encode}
 use Rattle.model.specs.Many.{ManyOutcome, all-accepted, refused-in, AnsweredMany, queryMany}
 use Rattle.model.specs.Refusals.{Outcome, accepted, refused, Answered, over, query}
@@ -28,63 +29,80 @@ expected i =
       certificate = over (encode (i .parts)) (replicate 128 0);
     }
 
--- {2, 5, 9}, {5, 7, 9, 12} and {1, 9}, t = 2, with an allowance
+-- an instance with an allowance, and one with an allowance that is large enough
+unfoldable pub limited : ℕ → List ℕ → List ℕ → ℕ → Outcome → List Part → Instance
+limited allowance numbers ends t o ps =
+    record { numbers = numbers; ends = ends; threshold = t; allowance = allowance; outcome = o; parts = ps }
+
+unfoldable pub instance : List ℕ → List ℕ → ℕ → Outcome → List Part → Instance
+instance numbers ends t o ps = limited 1000 numbers ends t o ps
+
+-- {2, 5, 9}, {5, 7, 9, 12} and {1, 9}
+unfoldable pub listingNumbers : List ℕ
+listingNumbers = 2 ∷ 5 ∷ 9 ∷ 5 ∷ 7 ∷ 9 ∷ 12 ∷ 1 ∷ 9 ∷ []
+
+unfoldable pub listingEnds : List ℕ
+listingEnds = 3 ∷ 7 ∷ 9 ∷ []
+
+-- these, t = 2, with an allowance
 unfoldable pub listing : ℕ → Outcome → List Part → Instance
-listing allowance o ps =
-    record {
-      numbers = 2 ∷ 5 ∷ 9 ∷ 5 ∷ 7 ∷ 9 ∷ 12 ∷ 1 ∷ 9 ∷ [];
-      ends = 3 ∷ 7 ∷ 9 ∷ [];
-      threshold = 2;
-      allowance = allowance;
-      outcome = o;
-      parts = ps;
-    }
+listing allowance o ps = limited allowance listingNumbers listingEnds 2 o ps
 
 -- the seven runs of figure 1 of Barbay and Kenyon, 'Alternation and Redundancy Analysis of the Intersection Problem', with a threshold
 unfoldable pub figure1 : ℕ → Outcome → List Part → Instance
 figure1 t o ps =
-    record {
-      numbers = 9 ∷ 1 ∷ 2 ∷ 9 ∷ 11 ∷ 3 ∷ 9 ∷ 12 ∷ 13 ∷ 9 ∷ 14 ∷ 15 ∷ 16 ∷ 4 ∷ 10 ∷ 17 ∷ 18 ∷ 5 ∷ 6 ∷ 7 ∷ 10 ∷ 8 ∷ 10 ∷ 19 ∷ 20 ∷ [];
-      ends = 1 ∷ 5 ∷ 9 ∷ 13 ∷ 17 ∷ 21 ∷ 25 ∷ [];
-      threshold = t;
-      allowance = 1000;
-      outcome = o;
-      parts = ps;
-    }
-
--- any other instance, with an allowance that is large enough
-unfoldable pub instance : List ℕ → List ℕ → ℕ → Outcome → List Part → Instance
-instance numbers ends t o ps =
-    record { numbers = numbers; ends = ends; threshold = t; allowance = 1000; outcome = o; parts = ps }
+    instance (9 ∷ 1 ∷ 2 ∷ 9 ∷ 11 ∷ 3 ∷ 9 ∷ 12 ∷ 13 ∷ 9 ∷ 14 ∷ 15 ∷ 16 ∷ 4 ∷ 10 ∷ 17 ∷ 18 ∷ 5 ∷ 6 ∷ 7 ∷ 10 ∷ 8 ∷ 10 ∷ 19 ∷ 20 ∷ [])
+    (1 ∷ 5 ∷ 9 ∷ 13 ∷ 17 ∷ 21 ∷ 25 ∷ []) t o ps
 
 unfoldable pub listingParts : List Part
 listingParts = gap 0 1 3 ∷ gap 2 4 6 ∷ answer 5 3 ∷ gap 6 8 5 ∷ answer 9 7 ∷ gap 10 4294967295 5 ∷ []
 
 unfoldable pub starred : List Instance
 starred =
-    listing 3 (accepted 2 6 106 3) listingParts ∷
-    listing 2 (refused 7 4 1 72 2) (take 4 listingParts) ∷
-    listing 0 (refused 7 1 0 19 0) (take 1 listingParts) ∷
-    instance (100 ∷ 10 ∷ 20 ∷ 30 ∷ 40 ∷ 50 ∷ 60 ∷ 70 ∷ 80 ∷ 90 ∷ 100 ∷ []) (1 ∷ 11 ∷ []) 2 (accepted 1 3 53 5)
+    listing 3 (accepted 2 6 106 3 0) listingParts ∷
+    listing 2 (refused 7 4 1 72 2 0) (take 4 listingParts) ∷
+    listing 0 (refused 7 1 0 19 0 0) (take 1 listingParts) ∷
+    instance (100 ∷ 10 ∷ 20 ∷ 30 ∷ 40 ∷ 50 ∷ 60 ∷ 70 ∷ 80 ∷ 90 ∷ 100 ∷ []) (1 ∷ 11 ∷ []) 2 (accepted 1 3 53 4 1)
     (gap 0 99 1 ∷ answer 100 3 ∷ gap 101 4294967295 3 ∷ []) ∷
-    instance (1 ∷ 2 ∷ 3 ∷ 4 ∷ 5 ∷ 6 ∷ []) (3 ∷ 6 ∷ []) 2 (accepted 0 2 38 2) (gap 0 3 2 ∷ gap 4 4294967295 1 ∷ []) ∷
-    instance (0 ∷ 4294967295 ∷ []) (2 ∷ []) 1 (accepted 2 3 49 0) (answer 0 1 ∷ gap 1 4294967294 1 ∷ answer 4294967295 1 ∷ []) ∷
-    instance [] (0 ∷ []) 1 (accepted 0 1 19 0) (gap 0 4294967295 1 ∷ []) ∷
-    instance (7 ∷ 7 ∷ []) (1 ∷ 2 ∷ []) 2 (accepted 1 3 53 0) (gap 0 6 3 ∷ answer 7 3 ∷ gap 8 4294967295 3 ∷ []) ∷
-    figure1 7 (accepted 0 3 57 11) (gap 0 8 9 ∷ gap 9 9 112 ∷ gap 10 4294967295 1 ∷ []) ∷
-    figure1 4 (accepted 1 6 110 13)
+    instance (1 ∷ 2 ∷ 3 ∷ 4 ∷ 5 ∷ 6 ∷ []) (3 ∷ 6 ∷ []) 2 (accepted 0 2 38 2 0) (gap 0 3 2 ∷ gap 4 4294967295 1 ∷ []) ∷
+    instance (0 ∷ 4294967295 ∷ []) (2 ∷ []) 1 (accepted 2 3 49 0 0) (answer 0 1 ∷ gap 1 4294967294 1 ∷ answer 4294967295 1 ∷ []) ∷
+    instance [] (0 ∷ []) 1 (accepted 0 1 19 0 0) (gap 0 4294967295 1 ∷ []) ∷
+    instance (7 ∷ 7 ∷ []) (1 ∷ 2 ∷ []) 2 (accepted 1 3 53 0 0) (gap 0 6 3 ∷ answer 7 3 ∷ gap 8 4294967295 3 ∷ []) ∷
+    figure1 7 (accepted 0 3 57 10 1) (gap 0 8 9 ∷ gap 9 9 112 ∷ gap 10 4294967295 1 ∷ []) ∷
+    figure1 4 (accepted 1 6 110 12 1)
     (gap 0 4 105 ∷ gap 5 8 31 ∷ answer 9 15 ∷ gap 10 10 15 ∷ gap 11 16 113 ∷ gap 17 4294967295 47 ∷ []) ∷
     []
 
 -- Between places 4 and 7 the halving place is 5. Rounded up it would be 6, and 5 probes in all.
 unfoldable pub roundedDown : Instance
 roundedDown =
-    instance (10 ∷ 20 ∷ 30 ∷ 40 ∷ 50 ∷ 60 ∷ 70 ∷ 55 ∷ []) (7 ∷ 8 ∷ []) 2 (accepted 0 3 57 4)
+    instance (10 ∷ 20 ∷ 30 ∷ 40 ∷ 50 ∷ 60 ∷ 70 ∷ 55 ∷ []) (7 ∷ 8 ∷ []) 2 (accepted 0 3 57 3 1)
     (gap 0 54 2 ∷ gap 55 59 1 ∷ gap 60 4294967295 2 ∷ [])
 
--- A call with many questions over the runs of the listing, so many places lent for answers, certificate bytes and results, all zeros before the call; and
--- what it returns and writes.
+-- {10, 20, .., 160} and {115}, t = 2: one search, of 4 doubling and then 3 halving probes. Smaller allowances end it before, at and after its first halving probe.
+unfoldable pub longNumbers : List ℕ
+longNumbers =
+    10 ∷ 20 ∷ 30 ∷ 40 ∷ 50 ∷ 60 ∷ 70 ∷ 80 ∷ 90 ∷ 100 ∷ 110 ∷ 120 ∷ 130 ∷ 140 ∷ 150 ∷ 160 ∷ 115 ∷ []
+
+unfoldable pub longEnds : List ℕ
+longEnds = 16 ∷ 17 ∷ []
+
+unfoldable pub longParts : List Part
+longParts = gap 0 114 2 ∷ gap 115 119 1 ∷ gap 120 4294967295 2 ∷ []
+
+unfoldable pub probeKinds : List Instance
+probeKinds =
+    limited 7 longNumbers longEnds 2 (accepted 0 3 57 4 3) longParts ∷
+    limited 6 longNumbers longEnds 2 (refused 7 1 0 19 4 2) (take 1 longParts) ∷
+    limited 5 longNumbers longEnds 2 (refused 7 1 0 19 4 1) (take 1 longParts) ∷
+    limited 4 longNumbers longEnds 2 (refused 7 1 0 19 4 0) (take 1 longParts) ∷
+    limited 3 longNumbers longEnds 2 (refused 7 1 0 19 3 0) (take 1 longParts) ∷
+    []
+
+-- A call with many questions, so many places lent for answers, certificate bytes and results, all zeros before the call; and what it returns and writes.
 pub record ManyInstance : Type 0 where
+  pub numbers : List ℕ
+  pub ends : List ℕ
   pub masks : List ℕ
   pub thresholds : List ℕ
   pub allowance : ℕ
@@ -97,8 +115,8 @@ pub record ManyInstance : Type 0 where
 
 unfoldable pub askedMany : ManyInstance → AnsweredMany
 askedMany i =
-    queryMany (2 ∷ 5 ∷ 9 ∷ 5 ∷ 7 ∷ 9 ∷ 12 ∷ 1 ∷ 9 ∷ []) (3 ∷ 7 ∷ 9 ∷ []) (i .masks) (i .thresholds) (i .allowance) (replicate (i .answers) 0)
-    (replicate (i .bytes) 0) (replicate (i .results) 0)
+    queryMany (i .numbers) (i .ends) (i .masks) (i .thresholds) (i .allowance) (replicate (i .answers) 0) (replicate (i .bytes) 0)
+    (replicate (i .results) 0)
 
 unfoldable pub expectedMany : ManyInstance → AnsweredMany
 expectedMany i =
@@ -117,10 +135,12 @@ unfoldable pub othersParts : List Part
 othersParts =
     gap 0 0 5 ∷ answer 1 4 ∷ answer 2 1 ∷ gap 3 4 5 ∷ answer 5 1 ∷ gap 6 8 5 ∷ answer 9 5 ∷ gap 10 4294967295 5 ∷ []
 
--- three questions with an allowance, and buffers large enough
+-- three questions over the runs of the listing with an allowance, and buffers large enough
 unfoldable pub threeQuestions : ℕ → ManyOutcome → List Part → List ℕ → ManyInstance
 threeQuestions allowance o ps rs =
     record {
+      numbers = listingNumbers;
+      ends = listingEnds;
       masks = 7 ∷ 3 ∷ 5 ∷ [];
       thresholds = 2 ∷ 2 ∷ 1 ∷ [];
       allowance = allowance;
@@ -136,6 +156,8 @@ threeQuestions allowance o ps rs =
 unfoldable pub twoQuestions : ℕ → ℕ → ManyOutcome → List Part → ManyInstance
 twoQuestions answers bytes o ps =
     record {
+      numbers = listingNumbers;
+      ends = listingEnds;
       masks = 7 ∷ 6 ∷ [];
       thresholds = 2 ∷ 1 ∷ [];
       allowance = 1000;
@@ -151,6 +173,8 @@ twoQuestions answers bytes o ps =
 unfoldable pub refusedMany : List ℕ → List ℕ → ℕ → ManyOutcome → ManyInstance
 refusedMany masks thresholds results o =
     record {
+      numbers = listingNumbers;
+      ends = listingEnds;
       masks = masks;
       thresholds = thresholds;
       allowance = 1000;
@@ -162,20 +186,39 @@ refusedMany masks thresholds results o =
       reached = [];
     }
 
+-- the long search twice, with an allowance
+unfoldable pub longTwice : ℕ → ManyOutcome → List Part → List ℕ → ManyInstance
+longTwice allowance o ps rs =
+    record {
+      numbers = longNumbers;
+      ends = longEnds;
+      masks = 3 ∷ 3 ∷ [];
+      thresholds = 2 ∷ 2 ∷ [];
+      allowance = allowance;
+      answers = 1;
+      bytes = 120;
+      results = 4;
+      outcome = o;
+      parts = ps;
+      reached = rs;
+    }
+
 unfoldable pub manyQuestions : List ManyInstance
 manyQuestions =
-    threeQuestions 5 (all-accepted 8 19 329 5) (listingParts ++ (firstTwoParts ++ othersParts)) (2 ∷ 106 ∷ 4 ∷ 193 ∷ 8 ∷ 329 ∷ []) ∷
-    threeQuestions 3 (refused-in 1 7 1 2 7 125 3) (listingParts ++ take 1 firstTwoParts) (2 ∷ 106 ∷ []) ∷
-    threeQuestions 4 (refused-in 1 7 3 3 9 159 4) (listingParts ++ take 3 firstTwoParts) (2 ∷ 106 ∷ []) ∷
-    twoQuestions 3 340 (refused-in 1 5 3 3 9 159 3) (listingParts ++ (gap 0 0 6 ∷ answer 1 4 ∷ gap 2 4 6 ∷ [])) ∷
-    twoQuestions 9 130 (refused-in 1 6 1 2 7 125 3) (listingParts ++ (gap 0 0 6 ∷ [])) ∷
-    refusedMany (7 ∷ 8 ∷ []) (2 ∷ 1 ∷ []) 4 (refused-in 1 13 1 0 0 0 0) ∷
-    refusedMany (7 ∷ 0 ∷ []) (2 ∷ 1 ∷ []) 4 (refused-in 1 13 1 0 0 0 0) ∷
-    refusedMany (7 ∷ 0 ∷ []) (4 ∷ 1 ∷ []) 4 (refused-in 0 2 3 0 0 0 0) ∷
-    refusedMany (7 ∷ 5 ∷ []) (2 ∷ 3 ∷ []) 4 (refused-in 1 2 2 0 0 0 0) ∷
-    refusedMany (7 ∷ []) (2 ∷ 1 ∷ []) 4 (refused-in 0 14 1 0 0 0 0) ∷
-    refusedMany (7 ∷ 7 ∷ []) (2 ∷ 1 ∷ []) 3 (refused-in 0 14 2 0 0 0 0) ∷
-    refusedMany [] [] 0 (all-accepted 0 0 0 0) ∷
+    threeQuestions 5 (all-accepted 8 19 329 5 0) (listingParts ++ (firstTwoParts ++ othersParts)) (2 ∷ 106 ∷ 4 ∷ 193 ∷ 8 ∷ 329 ∷ []) ∷
+    threeQuestions 3 (refused-in 1 7 1 2 7 125 3 0) (listingParts ++ take 1 firstTwoParts) (2 ∷ 106 ∷ []) ∷
+    threeQuestions 4 (refused-in 1 7 3 3 9 159 4 0) (listingParts ++ take 3 firstTwoParts) (2 ∷ 106 ∷ []) ∷
+    twoQuestions 3 340 (refused-in 1 5 3 3 9 159 3 0) (listingParts ++ (gap 0 0 6 ∷ answer 1 4 ∷ gap 2 4 6 ∷ [])) ∷
+    twoQuestions 9 130 (refused-in 1 6 1 2 7 125 3 0) (listingParts ++ (gap 0 0 6 ∷ [])) ∷
+    refusedMany (7 ∷ 8 ∷ []) (2 ∷ 1 ∷ []) 4 (refused-in 1 13 1 0 0 0 0 0) ∷
+    refusedMany (7 ∷ 0 ∷ []) (2 ∷ 1 ∷ []) 4 (refused-in 1 13 1 0 0 0 0 0) ∷
+    refusedMany (7 ∷ 0 ∷ []) (4 ∷ 1 ∷ []) 4 (refused-in 0 2 3 0 0 0 0 0) ∷
+    refusedMany (7 ∷ 5 ∷ []) (2 ∷ 3 ∷ []) 4 (refused-in 1 2 2 0 0 0 0 0) ∷
+    refusedMany (7 ∷ []) (2 ∷ 1 ∷ []) 4 (refused-in 0 14 1 0 0 0 0 0) ∷
+    refusedMany (7 ∷ 7 ∷ []) (2 ∷ 1 ∷ []) 3 (refused-in 0 14 2 0 0 0 0 0) ∷
+    refusedMany [] [] 0 (all-accepted 0 0 0 0 0) ∷
+    longTwice 14 (all-accepted 0 6 114 8 6) (longParts ++ longParts) (0 ∷ 57 ∷ 0 ∷ 114 ∷ []) ∷
+    longTwice 12 (refused-in 1 7 1 0 4 76 8 4) (longParts ++ take 1 longParts) (0 ∷ 57 ∷ []) ∷
     []
 
 -- The claims: each instance is answered as expected.

@@ -7,7 +7,7 @@ use lib.Count.{ones}
 use lib.Dec.{ltb, eqb}
 use lib.ListN.{length}
 use Rattle.model.specs.Certificate.{answersOf, encode}
-use Rattle.model.specs.Compared.{wholeWalk, partsOf, probesOf}
+use Rattle.model.specs.Compared.{wholeWalk, partsOf, doublingsOf, halvingsOf}
 use Rattle.model.specs.Refusals.{Check, passed, refusal, _then_, refuseIf, countCheck, thresholdCheck, listChecks, maskCheck, Room, after, Ended, cut, over}
 use Rattle.model.specs.Runs.{Run, runs, chosen}
 use Rattle.model.specs.Walk.{Event}
@@ -77,18 +77,17 @@ reached a b (e ∷ es) =
 
 -- The outcome of a call. The counts are the whole call's; a refused call also returns its number, its place and its question's index.
 pub data ManyOutcome : Type 0 where
-  all-accepted : (answers parts bytes probes : ℕ) → ManyOutcome
-  refused-in : (question number place answers parts bytes probes : ℕ) → ManyOutcome
+  all-accepted : (answers parts bytes doublings halvings : ℕ) → ManyOutcome
+  refused-in : (question number place answers parts bytes doublings halvings : ℕ) → ManyOutcome
 
 unfoldable pub manyOutcome : ManyCheck → List Event → ManyOutcome
 manyOutcome c es =
     let ps = partsOf es in
     let a = length (answersOf ps) in
     let b = length (encode ps) in
-    elim c [
-      | all-passed ↦ all-accepted a (length ps) b (probesOf es)
-      | refusal-in q n p ↦ refused-in q n p a (length ps) b (probesOf es)
-    ]
+    let d = doublingsOf es in
+    let h = halvingsOf es in
+    elim c [ all-passed ↦ all-accepted a (length ps) b d h | refusal-in q n p ↦ refused-in q n p a (length ps) b d h ]
 
 -- The outcome with what then stands in the answer buffer, in the certificate buffer and in the result row.
 pub record AnsweredMany : Type 0 where

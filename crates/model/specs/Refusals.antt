@@ -1,15 +1,15 @@
 -- docs/SPECIFICATION.md, 'The refusals': the first checks, the walk with an allowance and buffers, and the outcomes of question and checker for
 -- any input. Definitions only.
-use Prim.Native.Nat.{ℕ, zero, suc, _+_, _-_, _*_, _/_, _^_}
+use Prim.Native.Nat.{ℕ, zero, suc, _+_, _-_, _/_, _^_}
 use mathlib.Core.Bool.{Bool, true, false, _&&_, _||_, not}
 use mathlib.Core.List.{List, [], _∷_, _++_}
 use mathlib.Core.Option.{Option, none, some}
 use lib.Bits.{bitAnd}
 use lib.Count.{ones}
-use lib.Dec.{ltb, leb, eqb}
+use lib.Dec.{ltb, eqb}
 use lib.ListN.{length, drop}
 use Rattle.model.specs.Certificate.{Part, answer, gap, firstOf, lastOf, answersOf, encode, sizeOf, unreadable, read, readField}
-use Rattle.model.specs.Compared.{wholeWalk, partsOf, probesOf}
+use Rattle.model.specs.Compared.{wholeWalk, partsOf, doublingsOf, halvingsOf}
 use Rattle.model.specs.Between.{within}
 use Rattle.model.specs.Runs.{Run, firstBin, pastBin, runs, unrisen, holds, maskOfAll, names, chosen, mostRuns, mostNumbers}
 use Rattle.model.specs.Walk.{Event, sought, doubled, halved, wrote}
@@ -114,11 +114,12 @@ cut room (e ∷ es) =
 unfoldable pub cutWalk : ℕ → List Run → ℕ → ℕ → ℕ → Ended
 cutWalk t rs allowance answers bytes = cut (record { probes = allowance; answers = answers; bytes = bytes }) (wholeWalk t rs)
 
--- An accepted question returns counts of answers, parts, bytes and probes. A refused one returns its number, its place, the answers and certificate
--- bytes written and the probes made; these are zero at the door, and the place of a walk refusal is the number of whole parts written.
+-- An accepted question returns counts of answers, parts and bytes, and of doubling and of halving probes. A refused one returns its number, its place, the
+-- answers and certificate bytes written and the probes made, of either kind; these are zero at the door, and the place of a walk refusal is the number of
+-- whole parts written.
 pub data Outcome : Type 0 where
-  accepted : (answers parts bytes probes : ℕ) → Outcome
-  refused : (number place answers bytes probes : ℕ) → Outcome
+  accepted : (answers parts bytes doublings halvings : ℕ) → Outcome
+  refused : (number place answers bytes doublings halvings : ℕ) → Outcome
 
 -- The outcome of a question with what then stands in the answer buffer and in the certificate buffer.
 pub record Answered : Type 0 where
@@ -135,8 +136,9 @@ outcomeOf e =
     let ps = partsOf (e .events) in
     let a = length (answersOf ps) in
     let b = length (encode ps) in
-    let q = probesOf (e .events) in
-    elim (e .refused) [ zero ↦ accepted a (length ps) b q | suc n ↦ refused (suc n) (length ps) a b q ]
+    let d = doublingsOf (e .events) in
+    let h = halvingsOf (e .events) in
+    elim (e .refused) [ zero ↦ accepted a (length ps) b d h | suc n ↦ refused (suc n) (length ps) a b d h ]
 
 unfoldable pub query : List ℕ → List ℕ → ℕ → ℕ → List ℕ → List ℕ → Answered
 query numbers ends t allowance answers certificate =
@@ -148,7 +150,7 @@ query numbers ends t allowance answers certificate =
             answers = over (answersOf (partsOf (e .events))) answers;
             certificate = over (encode (partsOf (e .events))) certificate;
           }
-      | refusal n p ↦ record { outcome = refused n p 0 0 0; answers = answers; certificate = certificate }
+      | refusal n p ↦ record { outcome = refused n p 0 0 0 0; answers = answers; certificate = certificate }
     ]
 
 -- The checker returns the counts of answers and parts, both zero on a refusal.

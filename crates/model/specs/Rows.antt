@@ -1,10 +1,12 @@
--- Lists and rows of numbers in order, and runs counted by their heads: terms in which the code's contracts speak. Definitions only.
+-- Lists and rows of numbers in order, runs counted by their heads, and searches cut short: terms in which the code's contracts speak. Definitions only.
 use Prim.Native.Nat.{ℕ, suc, _≤_, _<_}
 use mathlib.Core.Bool.{true, false}
 use mathlib.Core.List.{List, [], _∷_}
 use lib.Dec.{ltb, eqb}
+use Rattle.model.specs.Compared.{halvingsOf}
+use Rattle.model.specs.Refusals.{cut}
 use Rattle.model.specs.Runs.{Run, pastBin, count}
-use Rattle.model.specs.Walk.{head}
+use Rattle.model.specs.Walk.{Event, head}
 
 -- bins that rise, the first of them not below a
 pub data Rise : ℕ → List ℕ → Type 0 where
@@ -33,3 +35,7 @@ below h rs = count (λ r. ltb (head r) h) rs
 -- how many heads equal v
 unfoldable pub equal : ℕ → List Run → ℕ
 equal v rs = count (λ r. eqb (head r) v) rs
+
+-- the halving probes of searches that have n probes left
+unfoldable pub halvingsWithin : ℕ → List Event → ℕ
+halvingsWithin n es = halvingsOf (cut (record { probes = n; answers = 0; bytes = 0 }) es .events)

@@ -7,8 +7,8 @@ use Rattle.query.specs.declared.Outcome.{Outcome}
 use Rattle.query.specs.declared.Outcome.the-variants.{Accepted, Refused}
 
 abbrev pub outcomeIs : Outcome → model.Outcome
-outcomeIs (Accepted answers parts bytes probes) = model.accepted answers parts bytes probes
-outcomeIs (Refused number place answers bytes probes) = model.refused number place answers bytes probes
+outcomeIs (Accepted answers parts bytes doublings halvings) = model.accepted answers parts bytes doublings halvings
+outcomeIs (Refused number place answers bytes doublings halvings) = model.refused number place answers bytes doublings halvings
 
 -- the outcome and the contents of both buffers are those of the question
 pub record Returns (answered : model.Answered) (outcome : model.Outcome) (answers′ certificate′ : List ℕ) : Type 0 where

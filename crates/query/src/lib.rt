@@ -1,6 +1,7 @@
 // The question: which bins at least t of the runs hold, with a certificate (docs/SPECIFICATION.md, 'The walk').
 ghost use mathlib.Core.Path.{_≡_};
 ghost use Prim.Native.Nat.{_≤_};
+ghost use Rattle.walk_tally.specs.Tally.{undoubled};
 ghost use Rattle.walk_write.specs.Writes.{countsOf};
 ghost use Rattle.model.specs.Demands.{Demand2, Demand3};
 ghost use Rattle.model.specs.Refusals.{passed, firstChecks, query};
@@ -9,36 +10,40 @@ ghost use Rattle.query.specs.Outcomes.{outcomeIs, Returns};
 use first_checks::Checked;
 use walk_rounds::End;
 
-// What a question returns: the counts, or the refusal's number and place with the counts.
+// What a question returns: the counts, the probes by doubling and by halving among them, or the refusal's number and place with the counts.
 pub enum Outcome {
     Accepted {
         answers: usize,
         parts: usize,
         bytes: usize,
-        probes: u32,
+        doublings: u32,
+        halvings: u32,
     },
     Refused {
         number: u8,
         place: usize,
         answers: usize,
         bytes: usize,
-        probes: u32,
+        doublings: u32,
+        halvings: u32,
     },
 }
 
 // What an ended walk returns.
 fn outcome_of(end: End, allowance: u32) -> Outcome
-    requires { ⌜ end .at .left ≤ allowance ⌝ }
+    requires { ⌜ undoubled (end .at .tally) ≤ allowance ⌝ }
     ensures { λ r. ⌜ outcomeIs r ≡ outcomeAt (end .number) (countsOf allowance (end .at)) ⌝ }
 {
     let w = end.at;
-    let probes = allowance - w.left;
+    let doublings = walk_tally::doublings(allowance, w.tally);
+    let halvings = walk_tally::halvings(w.tally);
     if end.number == 0 {
         return Outcome::Accepted {
             answers: w.answers,
             parts: w.parts,
             bytes: w.bytes,
-            probes: probes,
+            doublings: doublings,
+            halvings: halvings,
         };
     }
     Outcome::Refused {
@@ -46,7 +51,8 @@ fn outcome_of(end: End, allowance: u32) -> Outcome
         place: w.parts,
         answers: w.answers,
         bytes: w.bytes,
-        probes: probes,
+        doublings: doublings,
+        halvings: halvings,
     }
 }
 
@@ -71,7 +77,7 @@ fn answer(
         certificate,
         0,
         0,
-        allowance,
+        walk_tally::whole(allowance),
     );
     outcome_of(end, allowance)
 }
@@ -95,7 +101,8 @@ pub fn query(
             place: place,
             answers: 0,
             bytes: 0,
-            probes: 0,
+            doublings: 0,
+            halvings: 0,
         },
         Checked::Passed => answer(
             numbers,

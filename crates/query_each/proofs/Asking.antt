@@ -4,18 +4,18 @@ use lib.ListN.{length, getD, drop, set, drop-of-length-le}
 use lib.Seq.{drop-cons}
 use mathlib.Core.List.{List, [], _∷_}
 use mathlib.Core.Logic.{_≢_}
-use mathlib.Core.Path.{_≡_, refl, sym, ap, _∙_, subst}
+use mathlib.Core.Path.{_≡_, refl, sym, ap, _∙_}
 use native.Mathlib.Omega.{arith}
 use Rattle.field_write.specs.Stored.{placed}
-use Rattle.field_write.proofs.Placed.{placed-sets, placed-length}
-use Rattle.model.specs.Many.{all-passed, refusal-in, AnsweredMany}
-use Rattle.model.specs.Refusals.{passed, chosenChecks}
-use Rattle.model.specs.Runs.{runs, chosen}
+use Rattle.field_write.proofs.Placed.{placed-sets}
+use Rattle.model.specs.Many.{refusal-in}
+use Rattle.model.specs.Runs.{runs}
 use Rattle.query_progress.specs.Calls.{callEnded, callOnward}
 use Rattle.query_progress.proofs.Calls.{Fits, after, Told, told, next-on, next-stop, next-fits, call-done}
-use Rattle.walk_progress.specs.Progress.{Counts}
+use Rattle.walk_progress.specs.Progress.{probesSo}
 use Rattle.walk_rounds.specs.declared.End.{End}
 use Rattle.walk_whole.specs.Whole.{countsFrom, ComesTo}
+use Rattle.walk_tally.specs.Tally.{undoubled}
 use Rattle.walk_write.specs.Writes.{countsOf, endsWith}
 use Rattle.query_each.specs.Questions.{countsSo, Fitted, Rows, fromQuestion, endOf, Asks, Answers}
 use Rattle.query_each.specs.declared.Finish.{Finish}
@@ -28,32 +28,35 @@ told-so R q a b h =
     ap (λ n. set (set R (2 * q) a) n b) e ∙ placed-sets (a ∷ (b ∷ [])) R (2 * q) (omega arith)
 
 module _ (numbers ends : List ℕ) (m u t q : ℕ) (w : Totals) (A B R A′ B′ : List ℕ) (t-is : u ≡ t) (room : 2 * q + 2 ≤ length R) (fitted : Fitted A B w) (e : End)
-    (comes : ComesTo numbers ends m u (w .answers) (w .bytes) (w .left) A B A′ B′ e) where
+    (comes : ComesTo numbers ends m u (w .answers) (w .bytes) (w .tally) A B A′ B′ e) where
   -- the totals after it
   abbrev pub totals : Totals
-  totals = record { answers = e .at .answers; parts = w .parts + e .at .parts; bytes = e .at .bytes; left = e .at .left }
+  totals = record { answers = e .at .answers; parts = w .parts + e .at .parts; bytes = e .at .bytes; tally = e .at .tally }
 
-  fits : (allowance : ℕ) → Fits allowance (countsSo allowance w) A B
-  unfolding countsSo
-  fits allowance =
+  fits : (allowance : ℕ) → undoubled (w .tally) ≤ allowance → Fits allowance (countsSo allowance w) A B
+  unfolding countsSo probesSo
+  fits allowance l =
       let a = fitted .answered in
       let b = fitted .written in
       let p = fitted .parts in
       record { probes = omega arith; answers = omega arith; bytes = omega arith; parts = omega arith }
 
-  ended-so : (allowance : ℕ) → w .left ≤ allowance → (ms ts : List ℕ)
-      → Told allowance q (countsSo allowance w) A B R (runs numbers ends) m u ms ts (fits allowance) (e .number) (countsOf allowance (e .at)) A′ B′
+  ended-so : (allowance : ℕ) (h : undoubled (w .tally) ≤ allowance) (ms ts : List ℕ)
+      → Told allowance q (countsSo allowance w) A B R (runs numbers ends) m u ms ts (fits allowance h) (e .number) (countsOf allowance (e .at)) A′ B′
   unfolding countsSo endsWith countsOf countsFrom
   ended-so allowance h ms ts =
-      told allowance q (countsSo allowance w) A B R (runs numbers ends) m u ms ts (fits allowance) (e .number) (countsOf allowance (e .at)) A′ B′
+      told allowance q (countsSo allowance w) A B R (runs numbers ends) m u ms ts (fits allowance h) (e .number) (countsOf allowance (e .at)) A′ B′
       (comes .as-asked allowance h)
 
   pub fitted-after : Fitted A′ B′ totals
   unfolding countsSo countsOf
   fitted-after =
-      let f = next-fits (w .left) q (countsSo (w .left) w) A B R (runs numbers ends) m u [] [] (fits (w .left)) (e .number) (countsOf (w .left) (e .at)) A′ B′
-      (ended-so (w .left) (omega arith) [] []) in
-      record { answered = f .answers; written = f .bytes; parts = f .parts }
+      let l = fitted .allowed in
+      let o = comes .left-then in
+      let h : undoubled (w .tally) ≤ undoubled (w .tally) = omega arith in
+      let f = next-fits (undoubled (w .tally)) q (countsSo (undoubled (w .tally)) w) A B R (runs numbers ends) m u [] [] (fits (undoubled (w .tally)) h) (e .number)
+      (countsOf (undoubled (w .tally)) (e .at)) A′ B′ (ended-so (undoubled (w .tally)) h [] []) in
+      record { answered = f .answers; written = f .bytes; parts = f .parts; allowed = omega arith }
 
   -- the threshold as it is lent
   asked-so : (allowance : ℕ) (ms ts : List ℕ)
@@ -70,7 +73,7 @@ module _ (numbers ends : List ℕ) (m u t q : ℕ) (w : Totals) (A B R A′ B′
         fitted = fitted-after;
         goes-on = λ y allowance h ms ts.
             asked-so allowance ms ts
-            ∙ (next-on allowance q (countsSo allowance w) A B R (runs numbers ends) m u ms ts (fits allowance) (e .number) (countsOf allowance (e .at)) A′ B′
+            ∙ (next-on allowance q (countsSo allowance w) A B R (runs numbers ends) m u ms ts (fits allowance h) (e .number) (countsOf allowance (e .at)) A′ B′
             (ended-so allowance h ms ts) z room
             ∙ ap (λ x. callOnward allowance (suc q) (countsSo allowance totals) A′ B′ x (runs numbers ends) ms ts) (sym f));
         ends-so = λ n y. absurd (omega arith);
@@ -85,7 +88,7 @@ module _ (numbers ends : List ℕ) (m u t q : ℕ) (w : Totals) (A B R A′ B′
         goes-on = λ y. absurd (z y);
         ends-so = λ n y allowance h ms ts.
             asked-so allowance ms ts
-            ∙ next-stop allowance q (countsSo allowance w) A B R (runs numbers ends) m u ms ts (fits allowance) (e .number) (countsOf allowance (e .at)) A′ B′
+            ∙ next-stop allowance q (countsSo allowance w) A B R (runs numbers ends) m u ms ts (fits allowance h) (e .number) (countsOf allowance (e .at)) A′ B′
             (ended-so allowance h ms ts) n y;
       }
 
@@ -95,8 +98,8 @@ pub record Asked (numbers ends masks thresholds : List ℕ) (w₀ : Totals) (A�
   pub fitted : Fitted A B w
   pub rows : Rows numbers ends masks thresholds R
   pub bound : q ≤ length masks
-  pub left : w .left ≤ w₀ .left
-  pub same : (allowance : ℕ) → w₀ .left ≤ allowance
+  pub left : undoubled (w .tally) ≤ undoubled (w₀ .tally)
+  pub same : (allowance : ℕ) → undoubled (w₀ .tally) ≤ allowance
       → fromQuestion allowance numbers ends masks thresholds 0 w₀ A₀ B₀ R₀ ≡ fromQuestion allowance numbers ends masks thresholds q w A B R
 
 pub asked-none : (numbers ends masks thresholds : List ℕ) (w : Totals) (A B R : List ℕ) → Fitted A B w

@@ -8,12 +8,12 @@ ghost use Rattle.query_each.specs.Questions.{Fitted, Rows, Asks, Answers
 ghost use Rattle.model.specs.Refusals.{passed, chosenChecks};
 use walk_rounds::End;
 
-// What the questions so far have written, and the probes left of the call's allowance.
+// What the questions so far have written, and the tally of the call's probes (walk_tally).
 pub struct Totals {
     pub answers: usize,
     pub parts: usize,
     pub bytes: usize,
-    pub left: u32,
+    pub tally: u64,
 }
 
 // How a call ended: the refusal's number, or 0, with its place and its question's index; and what all its questions have written.
@@ -58,14 +58,14 @@ fn question(
         certificate,
         totals.answers,
         totals.bytes,
-        totals.left,
+        totals.tally,
     );
     let w = end.at;
     let at = Totals {
         answers: w.answers,
         parts: totals.parts + w.parts,
         bytes: w.bytes,
-        left: w.left,
+        tally: w.tally,
     };
     if end.number != 0 {
         return Finish {

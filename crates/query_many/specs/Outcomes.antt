@@ -8,8 +8,9 @@ use Rattle.query_many.specs.declared.ManyOutcome.{ManyOutcome}
 use Rattle.query_many.specs.declared.ManyOutcome.the-variants.{Accepted, Refused}
 
 abbrev pub manyOutcomeIs : ManyOutcome → model.ManyOutcome
-manyOutcomeIs (Accepted answers parts bytes probes) = model.all-accepted answers parts bytes probes
-manyOutcomeIs (Refused number place question answers parts bytes probes) = model.refused-in question number place answers parts bytes probes
+manyOutcomeIs (Accepted answers parts bytes doublings halvings) = model.all-accepted answers parts bytes doublings halvings
+manyOutcomeIs (Refused number place question answers parts bytes doublings halvings) =
+    model.refused-in question number place answers parts bytes doublings halvings
 
 -- the outcome and the contents of both buffers and of the result row are those of the call
 pub record ReturnsMany (answered : model.AnsweredMany) (outcome : model.ManyOutcome) (answers′ certificate′ results′ : List ℕ) : Type 0 where

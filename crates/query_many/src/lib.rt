@@ -6,18 +6,21 @@ ghost use Rattle.model.specs.Many.{all-passed, manyChecks, queryMany};
 ghost use Rattle.model.specs.ManyDemands.{ManyDemand2, ManyDemand3};
 ghost use Rattle.query_progress.specs.Calls.{callOutcome};
 ghost use Rattle.query_each.specs.Questions.{countsSo, endOf};
+ghost use Rattle.walk_tally.specs.Tally.{undoubled};
 ghost use Rattle.query_many.specs.Outcomes.{manyOutcomeIs, ReturnsMany};
 use query_checks::ManyChecked;
 use query_each::Finish;
 use query_each::Totals;
 
-// What a call returns: the counts of all its questions, and where it is refused the number, the place and the question's index, 0 if it belongs to none.
+// What a call returns: the counts of all its questions, the probes by doubling and by halving among them, and where it is refused the number, the place and the
+// question's index, 0 if it belongs to none.
 pub enum ManyOutcome {
     Accepted {
         answers: usize,
         parts: usize,
         bytes: usize,
-        probes: u32,
+        doublings: u32,
+        halvings: u32,
     },
     Refused {
         number: u8,
@@ -26,23 +29,26 @@ pub enum ManyOutcome {
         answers: usize,
         parts: usize,
         bytes: usize,
-        probes: u32,
+        doublings: u32,
+        halvings: u32,
     },
 }
 
 // What a call returns that ended so.
 fn outcome_of(end: Finish, allowance: u32) -> ManyOutcome
-    requires { ⌜ end .at .left ≤ allowance ⌝ }
+    requires { ⌜ undoubled (end .at .tally) ≤ allowance ⌝ }
     ensures { λ r. ⌜ manyOutcomeIs r ≡ callOutcome (endOf end) (countsSo allowance (end .at)) ⌝ }
 {
     let w = end.at;
-    let probes = allowance - w.left;
+    let doublings = walk_tally::doublings(allowance, w.tally);
+    let halvings = walk_tally::halvings(w.tally);
     if end.number == 0 {
         return ManyOutcome::Accepted {
             answers: w.answers,
             parts: w.parts,
             bytes: w.bytes,
-            probes: probes,
+            doublings: doublings,
+            halvings: halvings,
         };
     }
     ManyOutcome::Refused {
@@ -52,7 +58,8 @@ fn outcome_of(end: Finish, allowance: u32) -> ManyOutcome
         answers: w.answers,
         parts: w.parts,
         bytes: w.bytes,
-        probes: probes,
+        doublings: doublings,
+        halvings: halvings,
     }
 }
 
@@ -82,7 +89,7 @@ fn answer_all(
             answers: 0,
             parts: 0,
             bytes: 0,
-            left: allowance,
+            tally: walk_tally::whole(allowance),
         },
     );
     outcome_of(end, allowance)
@@ -117,7 +124,8 @@ pub fn query_many(
             answers: 0,
             parts: 0,
             bytes: 0,
-            probes: 0,
+            doublings: 0,
+            halvings: 0,
         },
         ManyChecked::Passed => answer_all(
             numbers,

@@ -1,38 +1,35 @@
 -- A call with many questions, one question at a time: a question that reaches its end is told in the result row, and the call goes on from there with what is
 -- left; one that a refusal ends, ends the call. Assumes nothing.
-use Prim.Native.Nat.{ℕ, zero, suc, _+_, _-_, _*_, _≤_, _<_}
-use lib.ListN.{length, take, drop, set, length-append, length-set}
+use Prim.Native.Nat.{ℕ, zero, suc, _+_, _-_, _*_, _≤_}
+use lib.ListN.{length, drop, length-append}
 use mathlib.Core.List.{List, [], _∷_, _++_, append-nil}
 use mathlib.Core.Path.{_≡_, refl, sym, ap, _∙_, subst}
 use native.Mathlib.Omega.{arith}
 use Rattle.field_write.specs.Stored.{placed}
 use Rattle.model.specs.Certificate.{answersOf, encode}
-use Rattle.model.specs.Compared.{wholeWalk, partsOf, probe, cost, probesOf}
-use Rattle.model.specs.Many.{ManyCheck, all-passed, refusal-in, ManyOutcome, all-accepted, refused-in, leftAfter, walks, eventsOf, ending, reached, manyOutcome, AnsweredMany, answeredMany}
-use Rattle.model.specs.Refusals.{Room, Ended, cut, Outcome, accepted, refused, Answered, over}
+use Rattle.model.specs.Compared.{wholeWalk, partsOf, doublingProbe, halvingProbe, doublingsOf, halvingsOf}
+use Rattle.model.specs.Many.{ManyCheck, all-passed, refusal-in, all-accepted, refused-in, leftAfter, walks, eventsOf, ending, reached, manyOutcome, AnsweredMany, answeredMany}
+use Rattle.model.specs.Refusals.{Room, Ended, cut, refused, Answered, over}
 use Rattle.model.specs.Runs.{Run, chosen}
 use Rattle.model.specs.Walk.{Event}
 use Rattle.model.proofs.Cutting.{Fitted, cut-fitted, cut-within, parts-bytes}
-use Rattle.model.proofs.Events.{parts-append, cost-append}
-use Rattle.model.proofs.Many.{Writing, answers-writing, bytes-writing, left-probes, walks-on, walks-stop, ending-on, ending-here, reached-on, reached-stop}
-use Rattle.walk_progress.specs.Progress.{Counts, noCounts, outcomeAt, ended, countsAfter, roomAt, finish, onward}
-use Rattle.walk_progress.proofs.Progress.{counts-same, placed-on, placed-none, placed-keeps}
+use Rattle.model.proofs.Events.{parts-append, cost-append, both-kinds}
+use Rattle.model.proofs.Many.{answers-writing, bytes-writing, left-probes, walks-on, walks-stop, ending-on, ending-here, reached-on, reached-stop}
+use Rattle.walk_progress.specs.Progress.{Counts, noCounts, probesSo, outcomeAt, ended, countsAfter, roomAt, finish, onward}
+use Rattle.walk_progress.proofs.Progress.{counts-same, counts-none, placed-on, placed-none, placed-keeps}
 use Rattle.query_progress.specs.Calls.{callOutcome, callEnded, callOnward}
 
 -- ---- the counts
 
-counts-none : (c : Counts) → countsAfter c [] ≡ c
-unfolding countsAfter partsOf answersOf encode probesOf cost
-counts-none c = counts-same (omega arith) (omega arith) (omega arith) (omega arith)
-
 counts-more : (c : Counts) (es ds : List Event) → countsAfter c (es ++ ds) ≡ countsAfter (countsAfter c es) ds
-unfolding countsAfter probesOf
+unfolding countsAfter doublingsOf halvingsOf
 counts-more c es ds =
     let a = ap length (answers-writing .more es ds) ∙ length-append (answersOf (partsOf es)) (answersOf (partsOf ds)) in
     let p = ap length (parts-append es ds) ∙ length-append (partsOf es) (partsOf ds) in
     let b = ap length (bytes-writing .more es ds) ∙ length-append (encode (partsOf es)) (encode (partsOf ds)) in
-    let q = cost-append probe es ds in
-    counts-same (omega arith) (omega arith) (omega arith) (omega arith)
+    let k = cost-append doublingProbe es ds in
+    let h = cost-append halvingProbe es ds in
+    counts-same (omega arith) (omega arith) (omega arith) (omega arith) (omega arith)
 
 -- ---- one question
 
@@ -43,8 +40,9 @@ outcome-same zero zero c d e =
     let a : c .answers ≡ d .answers = cc in
     let p : c .parts ≡ d .parts = cc in
     let b : c .bytes ≡ d .bytes = cc in
-    let q : c .probes ≡ d .probes = cc in
-    (refl, counts-same a p b q)
+    let k : c .doublings ≡ d .doublings = cc in
+    let h : c .halvings ≡ d .halvings = cc in
+    (refl, counts-same a p b k h)
 outcome-same zero (suc k) c d e = absurd (let z : _≡_ {A = ℕ} 0 1 = cc in omega arith)
 outcome-same (suc n) zero c d e = absurd (let z : _≡_ {A = ℕ} 0 1 = cc in omega arith)
 outcome-same (suc n) (suc k) c d e =
@@ -52,12 +50,13 @@ outcome-same (suc n) (suc k) c d e =
     let a : c .answers ≡ d .answers = cc in
     let p : c .parts ≡ d .parts = cc in
     let b : c .bytes ≡ d .bytes = cc in
-    let q : c .probes ≡ d .probes = cc in
-    (i, counts-same a p b q)
+    let k : c .doublings ≡ d .doublings = cc in
+    let h : c .halvings ≡ d .halvings = cc in
+    (i, counts-same a p b k h)
 
 -- The counts fit the allowance and the buffers.
 pub record Fits (allowance : ℕ) (c : Counts) (A B : List ℕ) : Type 0 where
-  pub probes : c .probes ≤ allowance
+  pub probes : probesSo c ≤ allowance
   pub answers : c .answers ≤ length A
   pub bytes : c .bytes ≤ length B
   pub parts : c .parts ≤ c .bytes
@@ -91,14 +90,16 @@ module _ (allowance q : ℕ) (c : Counts) (A B R : List ℕ) (rs : List Run) (m 
       placed-keeps B (encode (partsOf (walked .events))) (c .bytes) (omega arith)
 
   room-after : leftAfter (roomAt allowance c A B) (walked .events) ≡ roomAt allowance (countsAfter c (walked .events)) A₁ B₁
-  unfolding roomAt countsAfter
+  unfolding roomAt countsAfter probesSo
   room-after =
+      let k = both-kinds (walked .events) in
       let p = left-probes (roomAt allowance c A B) (walked .events) in
       let a = room .answers-left in
       let b = room .bytes-left in
       let u = answers-size in
       let v = bytes-size in
-      let d : leftAfter (roomAt allowance c A B) (walked .events) .probes ≡ allowance - (c .probes + probesOf (walked .events)) = omega arith in
+      let d : leftAfter (roomAt allowance c A B) (walked .events) .probes
+      ≡ allowance - (c .doublings + doublingsOf (walked .events) + (c .halvings + halvingsOf (walked .events))) = omega arith in
       let e : leftAfter (roomAt allowance c A B) (walked .events) .answers ≡ length A₁ - (c .answers + length (answersOf (partsOf (walked .events)))) = omega arith in
       let f : leftAfter (roomAt allowance c A B) (walked .events) .bytes ≡ length B₁ - (c .bytes + length (encode (partsOf (walked .events)))) = omega arith in
       λ i. record { probes = d i; answers = e i; bytes = f i }
@@ -168,8 +169,9 @@ module _ (allowance q : ℕ) (c : Counts) (A B R : List ℕ) (rs : List Run) (m 
 
   -- the counts after it
   pub fits-after : Fits allowance (countsAfter c (walked .events)) A₁ B₁
-  unfolding countsAfter roomAt
+  unfolding countsAfter roomAt probesSo
   fits-after =
+      let j = both-kinds (walked .events) in
       let p = fits .probes in
       let a = fits .answers in
       let b = fits .bytes in
@@ -188,14 +190,17 @@ module _ (allowance q : ℕ) (c : Counts) (A B R : List ℕ) (rs : List Run) (m 
     pub answers : c .answers + length (answersOf (partsOf (walked .events))) ≡ d .answers
     pub parts : length (partsOf (walked .events)) ≡ d .parts
     pub bytes : c .bytes + length (encode (partsOf (walked .events))) ≡ d .bytes
-    pub probes : c .probes + probesOf (walked .events) ≡ d .probes
+    pub doublings : c .doublings + doublingsOf (walked .events) ≡ d .doublings
+    pub halvings : c .halvings + halvingsOf (walked .events) ≡ d .halvings
     pub answers-are : A₁ ≡ A′
     pub bytes-are : B₁ ≡ B′
 
   pub told : (number : ℕ) (d : Counts) (A′ B′ : List ℕ)
-      → onward allowance (record { answers = c .answers; parts = 0; bytes = c .bytes; probes = c .probes }) A B (wholeWalk t (chosen m rs)) ≡ ended number d A′ B′
+      → onward allowance (record { answers = c .answers; parts = 0; bytes = c .bytes; doublings = c .doublings; halvings = c .halvings }) A B
+      (wholeWalk t (chosen m rs))
+      ≡ ended number d A′ B′
       → Told number d A′ B′
-  unfolding onward finish ended countsAfter roomAt
+  unfolding onward finish ended countsAfter roomAt probesSo
   told number d A′ B′ e =
       let o = outcome-same (walked .refused) number _ d (ap (λ (x : Answered). x .outcome) e) in
       record {
@@ -203,19 +208,20 @@ module _ (allowance q : ℕ) (c : Counts) (A B R : List ℕ) (rs : List Run) (m 
         answers = ap (λ (x : Counts). x .answers) (o .1);
         parts = sym (omega arith) ∙ ap (λ (x : Counts). x .parts) (o .1);
         bytes = ap (λ (x : Counts). x .bytes) (o .1);
-        probes = ap (λ (x : Counts). x .probes) (o .1);
+        doublings = ap (λ (x : Counts). x .doublings) (o .1);
+        halvings = ap (λ (x : Counts). x .halvings) (o .1);
         answers-are = ap (λ (x : Answered). x .answers) e;
         bytes-are = ap (λ (x : Answered). x .certificate) e;
       }
 
   -- the counts after it, as they are told
   abbrev pub after : Counts → Counts
-  after d = record { answers = d .answers; parts = c .parts + d .parts; bytes = d .bytes; probes = d .probes }
+  after d = record { answers = d .answers; parts = c .parts + d .parts; bytes = d .bytes; doublings = d .doublings; halvings = d .halvings }
 
   module _ (number : ℕ) (d : Counts) (A′ B′ : List ℕ) (end : Told number d A′ B′) where
     counts-after : countsAfter c (walked .events) ≡ after d
     unfolding countsAfter
-    counts-after = counts-same (end .answers) (ap (λ n. c .parts + n) (end .parts)) (end .bytes) (end .probes)
+    counts-after = counts-same (end .answers) (ap (λ n. c .parts + n) (end .parts)) (end .bytes) (end .doublings) (end .halvings)
 
     pub next-on : number ≡ 0 → 2 * q + 2 ≤ length R
         → callOnward allowance q c A B R rs (m ∷ ms) (t ∷ ts)
@@ -255,19 +261,21 @@ outcome-start all-passed es =
     let e₁ : length (answersOf (partsOf es)) ≡ 0 + length (answersOf (partsOf es)) = omega arith in
     let e₂ : length (partsOf es) ≡ 0 + length (partsOf es) = omega arith in
     let e₃ : length (encode (partsOf es)) ≡ 0 + length (encode (partsOf es)) = omega arith in
-    let e₄ : probesOf es ≡ 0 + probesOf es = omega arith in
-    λ i. all-accepted (e₁ i) (e₂ i) (e₃ i) (e₄ i)
+    let e₄ : doublingsOf es ≡ 0 + doublingsOf es = omega arith in
+    let e₅ : halvingsOf es ≡ 0 + halvingsOf es = omega arith in
+    λ i. all-accepted (e₁ i) (e₂ i) (e₃ i) (e₄ i) (e₅ i)
 outcome-start (refusal-in q n p) es =
     let e₁ : length (answersOf (partsOf es)) ≡ 0 + length (answersOf (partsOf es)) = omega arith in
     let e₂ : length (partsOf es) ≡ 0 + length (partsOf es) = omega arith in
     let e₃ : length (encode (partsOf es)) ≡ 0 + length (encode (partsOf es)) = omega arith in
-    let e₄ : probesOf es ≡ 0 + probesOf es = omega arith in
-    λ i. refused-in q n p (e₁ i) (e₂ i) (e₃ i) (e₄ i)
+    let e₄ : doublingsOf es ≡ 0 + doublingsOf es = omega arith in
+    let e₅ : halvingsOf es ≡ 0 + halvingsOf es = omega arith in
+    λ i. refused-in q n p (e₁ i) (e₂ i) (e₃ i) (e₄ i) (e₅ i)
 
 pub call-start : (allowance : ℕ) (A B R : List ℕ) (rs : List Run) (ms ts : List ℕ)
     → (let ws = walks (record { probes = allowance; answers = length A; bytes = length B }) rs ms ts in answeredMany (ending 0 ws) ws A B R)
     ≡ callOnward allowance 0 noCounts A B R rs ms ts
-unfolding callOnward answeredMany callEnded roomAt noCounts
+unfolding callOnward answeredMany callEnded roomAt noCounts probesSo
 call-start allowance A B R rs ms ts = Started ∙ ap Rest rooms
   where
     Rest : Room → AnsweredMany
@@ -277,9 +285,9 @@ call-start allowance A B R rs ms ts = Started ∙ ap Rest rooms
         (placed R 0 (reached 0 0 vs))
 
     rooms : _≡_ {A = Room} (record { probes = allowance; answers = length A; bytes = length B })
-        (record { probes = allowance - 0; answers = length A - 0; bytes = length B - 0 })
+        (record { probes = allowance - (0 + 0); answers = length A - 0; bytes = length B - 0 })
     rooms =
-        let e₁ : allowance ≡ allowance - 0 = omega arith in
+        let e₁ : allowance ≡ allowance - (0 + 0) = omega arith in
         let e₂ : length A ≡ length A - 0 = omega arith in
         let e₃ : length B ≡ length B - 0 = omega arith in
         λ i. record { probes = e₁ i; answers = e₂ i; bytes = e₃ i }

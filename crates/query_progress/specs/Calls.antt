@@ -10,8 +10,8 @@ use Rattle.walk_progress.specs.Progress.{Counts, countsAfter, roomAt}
 
 -- the outcome of a call that ended so, with these counts
 unfoldable pub callOutcome : ManyCheck → Counts → ManyOutcome
-callOutcome all-passed c = all-accepted (c .answers) (c .parts) (c .bytes) (c .probes)
-callOutcome (refusal-in q n p) c = refused-in q n p (c .answers) (c .parts) (c .bytes) (c .probes)
+callOutcome all-passed c = all-accepted (c .answers) (c .parts) (c .bytes) (c .doublings) (c .halvings)
+callOutcome (refusal-in q n p) c = refused-in q n p (c .answers) (c .parts) (c .bytes) (c .doublings) (c .halvings)
 
 unfoldable pub callEnded : ManyCheck → Counts → List ℕ → List ℕ → List ℕ → AnsweredMany
 callEnded e c answers certificate results =

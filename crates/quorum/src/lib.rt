@@ -51,7 +51,7 @@ pub extern "C" fn quorum_query(
     allowance: u32,
     answers: &mut [u32],
     certificate: &mut [u8],
-    result: &mut [u64; 6],
+    result: &mut [u64; 7],
 )
     ensures row { λ r. ⌜ now (result .exit) ≡ outcomeRow (query (now (numbers .entry)) (now (ends .entry)) threshold allowance (now (answers .entry)) (now (certificate .entry)) .outcome) ⌝ }
     ensures answered { λ r. ⌜ now (answers .exit) ≡ query (now (numbers .entry)) (now (ends .entry)) threshold allowance (now (answers .entry)) (now (certificate .entry)) .answers ⌝ }
@@ -71,7 +71,7 @@ pub extern "C" fn quorum_query_many(
     answers: &mut [u32],
     certificate: &mut [u8],
     results: &mut [u64],
-    result: &mut [u64; 7],
+    result: &mut [u64; 8],
 )
     ensures row { λ r. ⌜ now (result .exit) ≡ manyRow (queryMany (now (numbers .entry)) (now (ends .entry)) (now (masks .entry)) (now (thresholds .entry)) allowance (now (answers .entry)) (now (certificate .entry)) (now (results .entry)) .outcome) ⌝ }
     ensures answered { λ r. ⌜ now (answers .exit) ≡ queryMany (now (numbers .entry)) (now (ends .entry)) (now (masks .entry)) (now (thresholds .entry)) allowance (now (answers .entry)) (now (certificate .entry)) (now (results .entry)) .answers ⌝ }

@@ -3,7 +3,7 @@ use Prim.Native.Nat.{ℕ}
 use mathlib.Core.List.{List, [], _∷_}
 use Rattle.model.specs.Many.{ManyOutcome, all-accepted, refused-in}
 
--- refusal, place, question, answers, parts, bytes, probes
+-- refusal, place, question, answers, parts, bytes, doubling probes, halving probes
 unfoldable pub manyRow : ManyOutcome → List ℕ
-manyRow (all-accepted a n b p) = 0 ∷ 0 ∷ 0 ∷ a ∷ n ∷ b ∷ p ∷ []
-manyRow (refused-in q x place a n b p) = x ∷ place ∷ q ∷ a ∷ n ∷ b ∷ p ∷ []
+manyRow (all-accepted a n b d h) = 0 ∷ 0 ∷ 0 ∷ a ∷ n ∷ b ∷ d ∷ h ∷ []
+manyRow (refused-in q x place a n b d h) = x ∷ place ∷ q ∷ a ∷ n ∷ b ∷ d ∷ h ∷ []

@@ -5,7 +5,7 @@ ghost use Rattle.quorum_many.specs.Rows.{manyRow};
 use query_many::ManyOutcome;
 
 // An outcome as a row.
-pub fn put_many(outcome: ManyOutcome, result: &mut [u64; 7])
+pub fn put_many(outcome: ManyOutcome, result: &mut [u64; 8])
     ensures { λ r. ⌜ now (result .exit) ≡ manyRow (manyOutcomeIs outcome) ⌝ }
 {
     match outcome {
@@ -13,7 +13,8 @@ pub fn put_many(outcome: ManyOutcome, result: &mut [u64; 7])
             answers,
             parts,
             bytes,
-            probes,
+            doublings,
+            halvings,
         } => {
             *result = [
                 0,
@@ -22,7 +23,8 @@ pub fn put_many(outcome: ManyOutcome, result: &mut [u64; 7])
                 arith::u64_of_usize(answers),
                 arith::u64_of_usize(parts),
                 arith::u64_of_usize(bytes),
-                arith::u64_of_u32(probes),
+                arith::u64_of_u32(doublings),
+                arith::u64_of_u32(halvings),
             ];
         }
         ManyOutcome::Refused {
@@ -32,7 +34,8 @@ pub fn put_many(outcome: ManyOutcome, result: &mut [u64; 7])
             answers,
             parts,
             bytes,
-            probes,
+            doublings,
+            halvings,
         } => {
             *result = [
                 number as u64,
@@ -41,7 +44,8 @@ pub fn put_many(outcome: ManyOutcome, result: &mut [u64; 7])
                 arith::u64_of_usize(answers),
                 arith::u64_of_usize(parts),
                 arith::u64_of_usize(bytes),
-                arith::u64_of_u32(probes),
+                arith::u64_of_u32(doublings),
+                arith::u64_of_u32(halvings),
             ];
         }
     }

@@ -9,7 +9,7 @@ use Rattle.model.specs.Refusals.{Outcome, accepted, refused}
 unfoldable pub writtenOf : ℕ → ℕ → ℕ
 writtenOf number place = elim (ltb number 5) [ true ↦ 0 | false ↦ place ]
 
--- refusal, place, answers, parts, bytes, probes
+-- refusal, place, answers, parts, bytes, doubling probes, halving probes
 unfoldable pub outcomeRow : Outcome → List ℕ
-outcomeRow (accepted a n b q) = 0 ∷ 0 ∷ a ∷ n ∷ b ∷ q ∷ []
-outcomeRow (refused x p a b q) = x ∷ p ∷ a ∷ writtenOf x p ∷ b ∷ q ∷ []
+outcomeRow (accepted a n b d h) = 0 ∷ 0 ∷ a ∷ n ∷ b ∷ d ∷ h ∷ []
+outcomeRow (refused x p a b d h) = x ∷ p ∷ a ∷ writtenOf x p ∷ b ∷ d ∷ h ∷ []

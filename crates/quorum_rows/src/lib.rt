@@ -15,7 +15,7 @@ fn written(number: u8, place: usize) -> u64
 }
 
 // An outcome as a row.
-pub fn put_outcome(outcome: Outcome, result: &mut [u64; 6])
+pub fn put_outcome(outcome: Outcome, result: &mut [u64; 7])
     ensures { λ r. ⌜ now (result .exit) ≡ outcomeRow (outcomeIs outcome) ⌝ }
 {
     match outcome {
@@ -23,7 +23,8 @@ pub fn put_outcome(outcome: Outcome, result: &mut [u64; 6])
             answers,
             parts,
             bytes,
-            probes,
+            doublings,
+            halvings,
         } => {
             *result = [
                 0,
@@ -31,7 +32,8 @@ pub fn put_outcome(outcome: Outcome, result: &mut [u64; 6])
                 arith::u64_of_usize(answers),
                 arith::u64_of_usize(parts),
                 arith::u64_of_usize(bytes),
-                arith::u64_of_u32(probes),
+                arith::u64_of_u32(doublings),
+                arith::u64_of_u32(halvings),
             ];
         }
         Outcome::Refused {
@@ -39,7 +41,8 @@ pub fn put_outcome(outcome: Outcome, result: &mut [u64; 6])
             place,
             answers,
             bytes,
-            probes,
+            doublings,
+            halvings,
         } => {
             *result = [
                 number as u64,
@@ -47,7 +50,8 @@ pub fn put_outcome(outcome: Outcome, result: &mut [u64; 6])
                 arith::u64_of_usize(answers),
                 written(number, place),
                 arith::u64_of_usize(bytes),
-                arith::u64_of_u32(probes),
+                arith::u64_of_u32(doublings),
+                arith::u64_of_u32(halvings),
             ];
         }
     }

@@ -41,3 +41,14 @@ pub fn put_three(text: &mut [u8], at: usize, word: &[u8], x: u64, y: u64, z: u64
     let second = put_after(text, next, x);
     put_last(text, second, y, z)
 }
+
+// Lays a line of a word and four numbers.
+pub fn put_four(text: &mut [u8], at: usize, word: &[u8], w: u64, x: u64, y: u64, z: u64) -> usize
+    requires { ⌜ at ≤ length (now text) + 1 ⌝ }
+    ensures { λ r. ⌜ Lays (line (now (word .entry)) (w ∷ x ∷ y ∷ z ∷ [])) (now (text .entry)) at (now (text .exit)) r ⌝ }
+{
+    let next = text_write::put_word(text, at, word);
+    let second = put_after(text, next, w);
+    let third = put_after(text, second, x);
+    put_last(text, third, y, z)
+}

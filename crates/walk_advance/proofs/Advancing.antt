@@ -5,20 +5,22 @@ use lib.Dec.{ltb}
 use lib.ListN.{drop, take}
 use mathlib.Core.List.{List, _++_, map, List·Memᴰ}
 use mathlib.Core.Logic.{⊎-elim}
-use mathlib.Core.Path.{_≡_, sym, ap, _∙_, subst}
+use mathlib.Core.Path.{_≡_, refl, sym, ap, _∙_, subst}
 use native.Mathlib.Omega.{arith}
-use Rattle.model.specs.Compared.{probesOf}
+use Rattle.model.specs.Compared.{doublingsOf, halvingsOf}
 use Rattle.model.specs.Runs.{Run, pastBin, mask, maskOfAll, names, chosen}
 use Rattle.model.specs.Walk.{Event, head, searches, searched, settle, round, walk}
-use Rattle.model.specs.Rows.{Rise, below, equal}
+use Rattle.model.specs.Rows.{Rise, below, equal, halvingsWithin}
 use Rattle.model.proofs.Chosen.{chosen-mem}
+use Rattle.model.proofs.Events.{both-kinds}
 use Rattle.model.proofs.From.{rise-from, head-bin}
 use Rattle.model.proofs.Heads.{Heads, atMost, tth-enough, tth-ge}
+use Rattle.model.proofs.Quiet.{quiet-searches, Spent, spent-quiet, within-alone}
 use Rattle.model.proofs.Tests.{lt-or-le}
 use Rattle.model.proofs.Walking.{all-equal, map-mem, searched-bins}
 use Rattle.walk_keys.specs.Row.{belowCount, labelSum}
-use Rattle.walk_progress.specs.Progress.{onward, ended, withProbes}
-use Rattle.walk_progress.proofs.Progress.{onward-quiet, onward-spent, spentCounts}
+use Rattle.walk_progress.specs.Progress.{probesSo, onward, ended, withProbes}
+use Rattle.walk_progress.proofs.Progress.{onward-quiet, onward-spent}
 use Rattle.walk_write.specs.Writes.{countsOf, goesOn, endsWith, Fitted, Writes, gapEvents}
 use Rattle.walk_settle.specs.Turns.{Stands, Chooses, Goes, Settles}
 use Rattle.walk_advance.specs.Advances.{Raises, Advances}
@@ -28,10 +30,11 @@ use Rattle.walk_write.specs.declared.Turn.the-variants.{On, Done, Stopped}
 use Rattle.walk_write.specs.declared.Wrote.the-variants as wrote′
 use Rattle.walk_settle.proofs.Choosing.{chosen-labels, chosen-small, chosen-order, chosen-number, mask-of-chosen, chooses-moved, chosen-moved}
 use Rattle.walk_settle.proofs.Passing.{labels, small, taken-out, heads-from}
-use Rattle.walk_progress.proofs.Rounds.{gapBefore, gap-mask, front-in-all, round-is, quiet-searches}
+use Rattle.walk_progress.proofs.Rounds.{gapBefore, gap-mask, front-in-all, round-is}
 use Rattle.walk_write.proofs.Rows.{front-mask, front-names}
 use Rattle.walk_state.specs.Moves.{SearchReady}
-use Rattle.walk_searches.specs.Searches.{SearchedRuns}
+use Rattle.walk_searches.specs.Searches.{Exhausted, SearchedRuns}
+use Rattle.walk_tally.specs.Tally.{leftIn, halvedIn, undoubled}
 use Rattle.walk_state.specs.State.{runsAt, chosenAt, Holds}
 use Rattle.walk_searches.specs.declared.Moved.the-variants as moved
 use Rattle.walk_state.proofs.Choosing.{idle-equal, idle-searches, searched-keeps}
@@ -124,32 +127,54 @@ module _ (numbers ends positions keys A B : List ℕ) (m t v : ℕ) (w : State) 
     to-searches : (allowance k : ℕ) → goesOn allowance w A B (round (walk k t) t (w .floor) cs) ≡ goesOn allowance x A B′ (searches v rs ++ rest k)
     to-searches allowance k = ap (goesOn allowance w A B) (round-parts k) ∙ g .1 allowance A (searches v rs ++ rest k)
 
-    -- no probe is left
-    abbrev spentState : State
-    spentState = record { floor = x .floor; start = x .start; answers = x .answers; parts = x .parts; bytes = x .bytes; left = 0 }
+    -- the probes are as they were
+    x-tally : x .tally ≡ w .tally
+    x-tally = g .0 .tally
 
-    pub searches-stop : (positions′ keys′ : List ℕ) → x .left < probesOf (searches v rs)
-        → Goes (λ k. round (walk k t) t (w .floor) cs) m numbers ends t w A B positions′ keys′ A B′ (Stopped 7 spentState) × Raises (w .floor) (Stopped 7 spentState)
-    unfolding goesOn endsWith countsOf spentCounts
-    searches-stop positions′ keys′ h =
-        let l = g .0 .left in (
+    -- the state where no probe is left
+    abbrev spentState : ℕ → State
+    spentState tally = record { floor = x .floor; start = x .start; answers = x .answers; parts = x .parts; bytes = x .bytes; tally = tally }
+
+    -- of the searches as many probes are made as are left
+    cut-searches : (n tally : ℕ) → n ≡ leftIn (x .tally) → Exhausted (searches v rs) (x .tally) tally
+        → (q : Spent n (searches v rs)) × (halvedIn (x .tally) + halvingsOf (q .done) ≡ halvedIn tally) × (doublingsOf (q .done) + undoubled tally ≡ undoubled (x .tally))
+    cut-searches n tally e h =
+        let q = spent-quiet n (quiet-searches v rs) (omega (arith, h .0)) in
+        let p = q .probes in
+        let b = both-kinds (q .done) in
+        let k = within-alone q in
+        let i = ap (λ y. halvingsWithin y (searches v rs)) e in
+        (q, omega (arith, h .2), omega (arith, h .1, h .2))
+
+    pub searches-stop : (positions′ keys′ : List ℕ) (tally : ℕ) → SearchedRuns numbers ends rs v (x .tally) positions′ keys′ (moved.Spent tally)
+        → Goes (λ k. round (walk k t) t (w .floor) cs) m numbers ends t w A B positions′ keys′ A B′ (Stopped 7 (spentState tally))
+        × Raises (w .floor) (Stopped 7 (spentState tally))
+    unfolding goesOn endsWith countsOf withProbes probesSo
+    searches-stop positions′ keys′ tally h =
+        let l = ap undoubled x-tally in
+        let f = cut-searches (leftIn (x .tally)) tally refl h .2 in (
           (
             omega arith,
             omega arith,
             λ allowance k o.
-                let z : allowance ≡ allowance - 0 = omega arith in
+                let q = cut-searches (allowance - probesSo (countsOf allowance x)) tally (omega arith) h in
+                let d : allowance - undoubled (x .tally) + doublingsOf (q .0 .done) ≡ allowance - undoubled tally = omega (arith, q .2) in
                 to-searches allowance k
-                ∙ (onward-spent allowance (countsOf allowance x) A B′ (rest k) (quiet-searches v rs) (omega arith) (omega arith)
-                ∙ λ i. ended 7 (record { answers = x .answers; parts = x .parts; bytes = x .bytes; probes = z i }) A B′),
+                ∙ (onward-spent allowance (countsOf allowance x) A B′ (rest k) (q .0)
+                ∙ λ j. ended 7 (record { answers = x .answers; parts = x .parts; bytes = x .bytes; doublings = d j; halvings = q .1 j }) A B′),
           ),
           tt,
         )
 
     -- the state after the searches
     abbrev searchedState : ℕ → ℕ → State
-    searchedState start left = record { floor = v; start = start; answers = x .answers; parts = x .parts; bytes = x .bytes; left = left }
+    searchedState start tally = record { floor = v; start = start; answers = x .answers; parts = x .parts; bytes = x .bytes; tally = tally }
 
-    module _ (positions′ keys′ : List ℕ) (start left : ℕ) (h : SearchedRuns numbers ends rs v (x .left) positions′ keys′ (moved.On start left)) where
+    module _ (positions′ keys′ : List ℕ) (start tally : ℕ) (h : SearchedRuns numbers ends rs v (x .tally) positions′ keys′ (moved.On start tally)) where
+      -- halving probes are probes
+      still-allowed : undoubled tally ≤ undoubled (w .tally)
+      still-allowed = let b = both-kinds (searches v rs) in let e = ap undoubled x-tally in omega (arith, h .0 .0, h .0 .1)
+
       runs-now : runsAt 0 numbers positions′ ends ≡ map (searched v) rs
       runs-now = h .1 .runs-are
 
@@ -159,7 +184,7 @@ module _ (numbers ends positions keys A B : List ℕ) (m t v : ℕ) (w : State) 
       chooses-there : Chooses m numbers ends positions′ t
       chooses-there = chooses-moved numbers ends positions m t c (searched v) (searched-keeps v) positions′ runs-now
 
-      pub stands-there : Stands numbers ends positions′ keys′ t (searchedState start left) × Fitted A B′ (searchedState start left)
+      pub stands-there : Stands numbers ends positions′ keys′ t (searchedState start tally) × Fitted A B′ (searchedState start tally)
       stands-there =
           let b = adv .bin in
           let k = g .0 in
@@ -173,20 +198,24 @@ module _ (numbers ends positions keys A B : List ℕ) (m t v : ℕ) (w : State) 
                   let p = map-mem (searched v) rs r (subst (λ y. List·Memᴰ r y) runs-now i) in
                   subst (λ (y : Run). Rise v (y .bins)) (sym (p .2)) (searched-rises v (p .0) (s .rising (p .0) (p .1)) (omega arith));
               bin = b;
+              allowed = let l = still-allowed in let o = s .allowed in omega arith;
             },
             record { answered = omega arith; written = k .written; parts = k .parts },
           )
 
-      to-settle : (allowance k : ℕ) → w .left ≤ allowance → goesOn allowance w A B (round (walk k t) t (w .floor) cs)
-          ≡ goesOn allowance (searchedState start left) A B′ (settle (walk k t) t v (chosenAt m numbers positions′ ends))
-      unfolding goesOn countsOf withProbes
+      to-settle : (allowance k : ℕ) → undoubled (w .tally) ≤ allowance → goesOn allowance w A B (round (walk k t) t (w .floor) cs)
+          ≡ goesOn allowance (searchedState start tally) A B′ (settle (walk k t) t v (chosenAt m numbers positions′ ends))
+      unfolding goesOn countsOf withProbes probesSo
       to-settle allowance k o =
-          let l = g .0 .left in
-          let q = h .0 in
-          let z : allowance - x .left + probesOf (searches v rs) ≡ allowance - left = omega arith in
+          let e = ap undoubled x-tally in
+          let p = h .0 .0 in
+          let q = h .0 .1 in
+          let b = both-kinds (searches v rs) in
+          let d : allowance - undoubled (x .tally) + doublingsOf (searches v rs) ≡ allowance - undoubled tally = omega arith in
           to-searches allowance k
           ∙ (onward-quiet allowance (countsOf allowance x) A B′ (rest k) (quiet-searches v rs) (omega arith)
-          ∙ λ i. onward allowance (record { answers = x .answers; parts = x .parts; bytes = x .bytes; probes = z i }) A B′ (settle (walk k t) t v (sym chosen-now i)))
+          ∙ λ i. onward allowance (record { answers = x .answers; parts = x .parts; bytes = x .bytes; doublings = d i; halvings = sym q i }) A B′
+          (settle (walk k t) t v (sym chosen-now i)))
 
       -- the floor is raised
       rising-chosen : (r : Run) → List·Memᴰ r cs → Rise (w .floor) (r .bins)
@@ -222,12 +251,11 @@ module _ (numbers ends positions keys A B : List ℕ) (m t v : ℕ) (w : State) 
           at-least o r i = let p = heads-chosen r i in omega arith
 
       settled : (positions″ keys″ A″ B″ : List ℕ) (r : Turn)
-          → Goes (λ k. settle (walk k t) t v (chosenAt m numbers positions′ ends)) m numbers ends t (searchedState start left) A B′ positions″ keys″ A″ B″ r
+          → Goes (λ k. settle (walk k t) t v (chosenAt m numbers positions′ ends)) m numbers ends t (searchedState start tally) A B′ positions″ keys″ A″ B″ r
           → Settles (runsAt 0 numbers positions′ ends) t v r
           → Goes (λ k. round (walk k t) t (w .floor) cs) m numbers ends t w A B positions″ keys″ A″ B″ r × Raises (w .floor) r
       settled positions″ keys″ A″ B″ (On y) p u =
-          let l = g .0 .left in
-          let q = h .0 in
+          let l = still-allowed in
           let j = p .3 in (
             (
               p .0,
@@ -239,19 +267,17 @@ module _ (numbers ends positions keys A B : List ℕ) (m t v : ℕ) (w : State) 
             ⊎-elim (λ o. let z = raised (o .1) in let y′ = o .0 in omega arith) (λ (o : v < y .floor). let z = floor-le in omega arith) u,
           )
       settled positions″ keys″ A″ B″ (Done y) p u =
-          let l = g .0 .left in
-          let q = h .0 in
+          let l = still-allowed in
           let j = p .0 in
           ((omega arith, λ allowance k o. to-settle allowance k o ∙ p .1 allowance k (omega arith)), tt)
       settled positions″ keys″ A″ B″ (Stopped z y) p u =
-          let l = g .0 .left in
-          let q = h .0 in
+          let l = still-allowed in
           let j = p .1 in
           ((p .0, omega arith, λ allowance k o. to-settle allowance k o ∙ p .2 allowance k (omega arith)), tt)
 
       pub then-settles : (positions″ keys″ A″ B″ : List ℕ) (r : Turn)
           → ((i : ℕ) → Chooses i numbers ends positions′ t
-          → Goes (λ k. settle (walk k t) t v (chosenAt i numbers positions′ ends)) i numbers ends t (searchedState start left) A B′ positions″ keys″ A″ B″ r)
+          → Goes (λ k. settle (walk k t) t v (chosenAt i numbers positions′ ends)) i numbers ends t (searchedState start tally) A B′ positions″ keys″ A″ B″ r)
           × Settles (runsAt 0 numbers positions′ ends) t v r
           → Goes (λ k. round (walk k t) t (w .floor) cs) m numbers ends t w A B positions″ keys″ A″ B″ r × Raises (w .floor) r
       then-settles positions″ keys″ A″ B″ r p = settled positions″ keys″ A″ B″ r (p .0 m chooses-there) (p .1)

@@ -31,7 +31,7 @@ pub fn advance(
     let Wrote::On(x) = walk_write::gap_before(certificate, w, v, chosen - named) else {
         return Turn::Stopped(6, w);
     };
-    let Moved::On { start, left } = walk_searches::search_runs(
+    match walk_searches::search_runs(
         numbers,
         ends,
         positions,
@@ -39,10 +39,10 @@ pub fn advance(
         w.start + front.count,
         named,
         v,
-        x.left,
+        x.tally,
         front.count,
-    ) else {
-        return Turn::Stopped(
+    ) {
+        Moved::Spent(tally) => Turn::Stopped(
             7,
             State {
                 floor: x.floor,
@@ -50,25 +50,25 @@ pub fn advance(
                 answers: x.answers,
                 parts: x.parts,
                 bytes: x.bytes,
-                left: 0,
+                tally: tally,
             },
-        );
-    };
-    walk_settle::settle(
-        numbers,
-        ends,
-        threshold,
-        positions,
-        keys,
-        answers,
-        certificate,
-        State {
-            floor: v,
-            start: start,
-            answers: x.answers,
-            parts: x.parts,
-            bytes: x.bytes,
-            left: left,
-        },
-    )
+        ),
+        Moved::On { start, tally } => walk_settle::settle(
+            numbers,
+            ends,
+            threshold,
+            positions,
+            keys,
+            answers,
+            certificate,
+            State {
+                floor: v,
+                start: start,
+                answers: x.answers,
+                parts: x.parts,
+                bytes: x.bytes,
+                tally: tally,
+            },
+        ),
+    }
 }

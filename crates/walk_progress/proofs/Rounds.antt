@@ -1,22 +1,18 @@
 -- A round of the walk in the terms of the code: the gap before v, the searches, the answer; and the mask that a gap names. Assumes nothing.
-use Prim.Native.Nat.{ℕ, zero, suc, _+_, _-_, _*_, _^_, _≤_, _<_}
+use Prim.Native.Nat.{ℕ, suc, _+_, _-_, _*_, _^_, _≤_, _<_}
 use borrow.Author.Tests.{lt-ltb, le-ltb, le-leb, lt-leb, eq-eqb, ne-eqb}
 use lib.Dec.{ltb, leb, eqb}
-use lib.ListN.{replicate}
 use mathlib.Core.Bool.{Bool, true, false, not}
 use mathlib.Core.List.{List, [], _∷_, _++_, map}
-use mathlib.Core.Logic.{⊎-elim, _≢_}
+use mathlib.Core.Logic.{_≢_}
 use mathlib.Core.Path.{_≡_, refl, sym, ap, _∙_}
 use native.Mathlib.Omega.{arith}
 use Rattle.model.specs.Certificate.{answer, gap}
 use Rattle.model.specs.Runs.{Run, lastBin, pastBin, one, count, mask, maskOfAll}
-use Rattle.model.specs.Walk.{Event, doubled, halved, wrote, head, tthHead, seek, searchIn, searches, searched, movedOn, settle, round}
-use Rattle.model.proofs.Bounds.{search-made, search-none}
+use Rattle.model.specs.Walk.{Event, wrote, head, tthHead, searches, searched, movedOn, settle, round}
 use Rattle.model.proofs.Count.{total-eq, total-add}
 use Rattle.model.specs.Rows.{below, equal}
-use Rattle.model.proofs.Tests.{lt-or-le}
 use Rattle.model.proofs.Truth.{not-below}
-use Rattle.walk_progress.proofs.Progress.{Quiet, quiet-nil, quiet-sought, quiet-doubled, quiet-halved}
 
 -- ---- masks
 
@@ -77,33 +73,3 @@ pub settle-ends : (next : ℕ → List Run → List Event) (t v : ℕ) (rs : Lis
     → settle next t v rs ≡ wrote (answer v (mask (λ r. eqb (head r) v) rs)) ∷ []
 unfolding settle equal
 settle-ends next t v rs h n = rw (le-leb t (count (λ r. eqb (head r) v) rs) h, eq-eqb v lastBin n, settle)
-
--- ---- searches write nothing
-
-quiet-append : {as′ bs : List Event} → Quiet as′ → Quiet bs → Quiet (as′ ++ bs)
-quiet-append quiet-nil q = q
-quiet-append (quiet-sought p) q = quiet-sought (quiet-append p q)
-quiet-append (quiet-doubled p) q = quiet-doubled (quiet-append p q)
-quiet-append (quiet-halved p) q = quiet-halved (quiet-append p q)
-
-quiet-doublings : (n l : ℕ) → Quiet (replicate n (doubled l))
-quiet-doublings zero l = quiet-nil
-quiet-doublings (suc n) l = quiet-doubled (quiet-doublings n l)
-
-quiet-halvings : (n l : ℕ) → Quiet (replicate n (halved l))
-quiet-halvings zero l = quiet-nil
-quiet-halvings (suc n) l = quiet-halved (quiet-halvings n l)
-
-quiet-search : (v : ℕ) (r : Run) → Quiet (searchIn v r)
-quiet-search v r =
-    ⊎-elim
-    (λ (h : head r < v).
-    rw (search-made v r h)
-    (quiet-sought (quiet-append (quiet-doublings (seek v (r .bins) .doublings) (r .label)) (quiet-halvings (seek v (r .bins) .halvings) (r .label)))))
-    (λ (h : v ≤ head r). rw (search-none v r h) quiet-nil)
-    (lt-or-le (head r) v)
-
-pub quiet-searches : (v : ℕ) (rs : List Run) → Quiet (searches v rs)
-unfolding searches
-quiet-searches v [] = quiet-nil
-quiet-searches v (r ∷ rs) = quiet-append (quiet-search v r) (quiet-searches v rs)

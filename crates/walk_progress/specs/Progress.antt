@@ -4,7 +4,7 @@ use mathlib.Core.List.{List}
 use lib.ListN.{length}
 use Rattle.field_write.specs.Stored.{placed}
 use Rattle.model.specs.Certificate.{answersOf, encode}
-use Rattle.model.specs.Compared.{partsOf, probesOf}
+use Rattle.model.specs.Compared.{partsOf, doublingsOf, halvingsOf}
 use Rattle.model.specs.Refusals.{Room, Ended, cut, Outcome, accepted, refused, Answered}
 use Rattle.model.specs.Walk.{Event}
 
@@ -13,15 +13,20 @@ pub record Counts : Type 0 where
   pub answers : ℕ
   pub parts : ℕ
   pub bytes : ℕ
-  pub probes : ℕ
+  pub doublings : ℕ
+  pub halvings : ℕ
 
 unfoldable pub noCounts : Counts
-noCounts = record { answers = 0; parts = 0; bytes = 0; probes = 0 }
+noCounts = record { answers = 0; parts = 0; bytes = 0; doublings = 0; halvings = 0 }
+
+-- the probes of both kinds
+unfoldable pub probesSo : Counts → ℕ
+probesSo c = c .doublings + c .halvings
 
 -- the outcome of a walk that ended with these counts, and of one that a refusal ended
 unfoldable pub outcomeAt : ℕ → Counts → Outcome
-outcomeAt zero c = accepted (c .answers) (c .parts) (c .bytes) (c .probes)
-outcomeAt (suc n) c = refused (suc n) (c .parts) (c .answers) (c .bytes) (c .probes)
+outcomeAt zero c = accepted (c .answers) (c .parts) (c .bytes) (c .doublings) (c .halvings)
+outcomeAt (suc n) c = refused (suc n) (c .parts) (c .answers) (c .bytes) (c .doublings) (c .halvings)
 
 unfoldable pub ended : ℕ → Counts → List ℕ → List ℕ → Answered
 ended n c answers certificate = record { outcome = outcomeAt n c; answers = answers; certificate = certificate }
@@ -33,13 +38,14 @@ countsAfter c es =
       answers = c .answers + length (answersOf (partsOf es));
       parts = c .parts + length (partsOf es);
       bytes = c .bytes + length (encode (partsOf es));
-      probes = c .probes + probesOf es;
+      doublings = c .doublings + doublingsOf es;
+      halvings = c .halvings + halvingsOf es;
     }
 
 -- what is left of the allowance and of the buffers
 unfoldable pub roomAt : ℕ → Counts → List ℕ → List ℕ → Room
 roomAt allowance c answers certificate =
-    record { probes = allowance - c .probes; answers = length answers - c .answers; bytes = length certificate - c .bytes }
+    record { probes = allowance - probesSo c; answers = length answers - c .answers; bytes = length certificate - c .bytes }
 
 -- What a question comes to from here on, with counts, the buffers as they are now, and what its walk is still to do.
 unfoldable pub finish : Counts → List ℕ → List ℕ → Ended → Answered
@@ -50,12 +56,12 @@ finish c answers certificate e =
 unfoldable pub onward : ℕ → Counts → List ℕ → List ℕ → List Event → Answered
 onward allowance c answers certificate es = finish c answers certificate (cut (roomAt allowance c answers certificate) es)
 
--- the counts after a part, and after some probes
+-- the counts after a part, and after some probes of either kind
 unfoldable pub withAnswer : Counts → Counts
-withAnswer c = record { answers = c .answers + 1; parts = c .parts + 1; bytes = c .bytes + 15; probes = c .probes }
+withAnswer c = record { answers = c .answers + 1; parts = c .parts + 1; bytes = c .bytes + 15; doublings = c .doublings; halvings = c .halvings }
 
 unfoldable pub withGap : Counts → Counts
-withGap c = record { answers = c .answers; parts = c .parts + 1; bytes = c .bytes + 19; probes = c .probes }
+withGap c = record { answers = c .answers; parts = c .parts + 1; bytes = c .bytes + 19; doublings = c .doublings; halvings = c .halvings }
 
-unfoldable pub withProbes : ℕ → Counts → Counts
-withProbes n c = record { answers = c .answers; parts = c .parts; bytes = c .bytes; probes = c .probes + n }
+unfoldable pub withProbes : ℕ → ℕ → Counts → Counts
+withProbes d h c = record { answers = c .answers; parts = c .parts; bytes = c .bytes; doublings = c .doublings + d; halvings = c .halvings + h }

@@ -14,6 +14,7 @@ use Rattle.model.proofs.Masks.{Ascending}
 use Rattle.walk_keys.specs.Row.{noKey, labelSum, nthHead}
 use Rattle.walk_keys.proofs.Row.{member-at}
 use Rattle.walk_progress.proofs.Progress.{onward-end}
+use Rattle.walk_tally.specs.Tally.{undoubled}
 use Rattle.walk_write.specs.Writes.{countsOf, goesOn, endsWith, Fitted, LastReady, LastGap}
 use Rattle.walk_settle.specs.Turns.{Stands, Chooses, Goes}
 use Rattle.walk_advance.specs.Advances.{Raises, Advances}
@@ -88,7 +89,7 @@ module _ (numbers ends positions keys A B : List ℕ) (m t : ℕ) (w : State) (s
   unfolding goesOn endsWith
   ends-there B′ (On x) h g = absurd g
   ends-there B′ (Done x) h g =
-      let l = g .0 .left in (
+      let l = ap undoubled (g .0 .tally) in (
         (
           omega arith,
           λ allowance n k. ap (goesOn allowance w A B) (last-round h n) ∙ (g .1 allowance A [] ∙ onward-end allowance (countsOf allowance x) A B′),
@@ -99,7 +100,7 @@ module _ (numbers ends positions keys A B : List ℕ) (m t : ℕ) (w : State) (s
       let p = g .0 in (
         (
           omega arith,
-          subst (λ z. z .left ≤ w .left) (sym (g .1)) (omega arith),
+          subst (λ (z : State). undoubled (z .tally) ≤ undoubled (w .tally)) (sym (g .1)) (omega arith),
           λ allowance n k.
               ap (goesOn allowance w A B) (last-round h n)
               ∙ (g .2 .1 allowance A []

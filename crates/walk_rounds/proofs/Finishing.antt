@@ -5,6 +5,7 @@ use mathlib.Core.Path.{_≡_, ap, _∙_}
 use native.Mathlib.Omega.{arith}
 use Rattle.model.specs.Runs.{Run}
 use Rattle.model.specs.Walk.{round, walk}
+use Rattle.walk_tally.specs.Tally.{undoubled}
 use Rattle.walk_write.specs.Writes.{goesOn, endsWith, Fitted}
 use Rattle.walk_settle.specs.Turns.{Stands, Chooses, Goes}
 use Rattle.walk_advance.specs.Advances.{Raises}
@@ -18,10 +19,10 @@ pub record Made (numbers ends : List ℕ) (m t : ℕ) (rs : List Run) (w : State
   pub stands : Stands numbers ends positions keys t x
   pub chooses : Chooses m numbers ends positions t
   pub fits : Fitted A′ B′ x
-  pub left : x .left ≤ w .left
+  pub left : undoubled (x .tally) ≤ undoubled (w .tally)
   pub made : ℕ
   pub raised : w .floor + made ≤ x .floor
-  pub goes : (allowance n : ℕ) → w .left ≤ allowance
+  pub goes : (allowance n : ℕ) → undoubled (w .tally) ≤ allowance
       → goesOn allowance w A B (walk (made + n) t (w .floor) rs) ≡ goesOn allowance x A′ B′ (walk n t (x .floor) (chosenAt m numbers positions ends))
 
 pub made-none : (numbers ends : List ℕ) (m t : ℕ) (w : State) (A B positions keys : List ℕ) → Stands numbers ends positions keys t w
@@ -40,7 +41,7 @@ made-none numbers ends m t w A B positions keys s c f =
 
 -- the next round begins
 one-more : (numbers ends : List ℕ) (m t : ℕ) (rs : List Run) (w : State) (A B positions keys A′ B′ : List ℕ) (x : State)
-    (h : Made numbers ends m t rs w A B positions keys A′ B′ x) (allowance n k : ℕ) → w .left ≤ allowance → k ≡ h .made + suc n
+    (h : Made numbers ends m t rs w A B positions keys A′ B′ x) (allowance n k : ℕ) → undoubled (w .tally) ≤ allowance → k ≡ h .made + suc n
     → goesOn allowance w A B (walk k t (w .floor) rs) ≡ goesOn allowance x A′ B′ (round (walk n t) t (x .floor) (chosenAt m numbers positions ends))
 unfolding walk
 one-more numbers ends m t rs w A B positions keys A′ B′ x h allowance n k l e =
@@ -67,8 +68,8 @@ made-more numbers ends m t rs w A B positions keys A′ B′ x h positions″ ke
 
 -- a round that ends the walk
 pub made-all : (numbers ends : List ℕ) (m t : ℕ) (rs : List Run) (w : State) (A B positions keys A′ B′ : List ℕ) (x : State)
-    → Made numbers ends m t rs w A B positions keys A′ B′ x → (A″ B″ : List ℕ) (number : ℕ) (y : State) → y .left ≤ x .left
-    → ((allowance n : ℕ) → x .left ≤ allowance
+    → Made numbers ends m t rs w A B positions keys A′ B′ x → (A″ B″ : List ℕ) (number : ℕ) (y : State) → undoubled (y .tally) ≤ undoubled (x .tally)
+    → ((allowance n : ℕ) → undoubled (x .tally) ≤ allowance
     → goesOn allowance x A′ B′ (round (walk n t) t (x .floor) (chosenAt m numbers positions ends)) ≡ endsWith number allowance y A″ B″)
     → Finishes rs t w A B A″ B″ (record { number = number; at = y })
 made-all numbers ends m t rs w A B positions keys A′ B′ x h A″ B″ number y k g =

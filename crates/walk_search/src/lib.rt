@@ -1,54 +1,48 @@
-// The search (docs/SPECIFICATION.md, 'The search') in the numbers of one run from its position on, with a limited number of probes. At most 2 × digits probes.
-ghost use mathlib.Core.Path.{_≡_};
-ghost use Prim.Native.Nat.{_≤_};
+// The search (docs/SPECIFICATION.md, 'The search') in the numbers of one run from its position on, with a tally of probes (walk_tally), which tells the doubling
+// and the halving probes that it makes. At most 2 × digits probes.
+ghost use Prim.Native.Nat.{_≤_, _<_};
 ghost use lib.ListN.{length};
 ghost use Rattle.model.specs.Walk.{doubling, halving, seek};
-ghost use Rattle.walk_search.specs.Limited.{bracketWithin, placeWithin, soughtWithin};
+ghost use Rattle.walk_tally.specs.Tally.{undoubled};
+ghost use Rattle.walk_search.specs.Limited.{Doubles, Halves, Seeks};
 
-// Where the doubling ended, with its probes; or that no probe was left for it.
+// Where the doubling ended, with the tally after it; or the tally where no probe was left for it.
 pub enum Bracketed {
-    Between { lo: usize, hi: usize, probes: u32 },
-    NoneLeft,
+    Between { lo: usize, hi: usize, tally: u64 },
+    NoneLeft(u64),
 }
 
-// Where the halving ended, with its probes; or that no probe was left for it.
+// Where the halving ended, with the tally after it; or the tally where no probe was left for it.
 pub enum Placed {
-    At { place: usize, probes: u32 },
-    NoneLeft,
+    At { place: usize, tally: u64 },
+    NoneLeft(u64),
 }
 
-// A search: the new position, counted from the old one, and the probes of each kind; or the probes made where no more were left.
+// A search: the new position, counted from the old one, and the tally after it; or the tally where no probe was left for it.
 pub enum Sought {
-    Found {
-        place: usize,
-        doublings: u32,
-        halvings: u32,
-    },
-    Spent {
-        doublings: u32,
-        halvings: u32,
-    },
+    Found { place: usize, tally: u64 },
+    Spent(u64),
 }
 
 // Places 1, 2, 4 and so on, up to the first number that is at least v or the first place not below the length.
-fn doubled(s: &[u32], v: u32, left: u32) -> Bracketed
-    ensures { λ r. ⌜ r ≡ bracketWithin left (doubling (length (now (s .entry))) v (now (s .entry)) 0 1) ⌝ }
+fn doubled(s: &[u32], v: u32, before: u64) -> Bracketed
+    ensures { λ r. ⌜ Doubles before (doubling (length (now (s .entry))) v (now (s .entry)) 0 1) r ⌝ }
 {
     let n = s.len();
     let mut lo: usize = 0;
     let mut place: usize = 1;
-    let mut probes: u32 = 0;
+    let mut tally = before;
     while place < n {
-        if probes == left {
-            return Bracketed::NoneLeft;
+        if walk_tally::left(tally) == 0 {
+            return Bracketed::NoneLeft(tally);
         }
         let x = s[place];
-        probes += 1;
+        tally = walk_tally::doubled(tally);
         if v <= x {
             return Bracketed::Between {
                 lo: lo,
                 hi: place,
-                probes: probes,
+                tally: tally,
             };
         }
         lo = place;
@@ -57,25 +51,25 @@ fn doubled(s: &[u32], v: u32, left: u32) -> Bracketed
     Bracketed::Between {
         lo: lo,
         hi: n,
-        probes: probes,
+        tally: tally,
     }
 }
 
 // Halving between a place below v and one that is not.
-fn halved(s: &[u32], v: u32, from: usize, to: usize, left: u32) -> Placed
-    requires { ⌜ (from ≤ to) × (to ≤ length (now s)) ⌝ }
-    ensures { λ r. ⌜ r ≡ placeWithin left (halving (length (now (s .entry))) v (now (s .entry)) from to) ⌝ }
+fn halved(s: &[u32], v: u32, from: usize, to: usize, before: u64) -> Placed
+    requires { ⌜ (from ≤ to) × (to ≤ length (now s)) × (undoubled before < 4294967296) ⌝ }
+    ensures { λ r. ⌜ Halves before (halving (length (now (s .entry))) v (now (s .entry)) from to) r ⌝ }
 {
     let mut lo = from;
     let mut hi = to;
-    let mut probes: u32 = 0;
+    let mut tally = before;
     while 1 < hi - lo {
-        if probes == left {
-            return Placed::NoneLeft;
+        if walk_tally::left(tally) == 0 {
+            return Placed::NoneLeft(tally);
         }
         let m = lo + (hi - lo) / 2;
         let x = s[m];
-        probes += 1;
+        tally = walk_tally::halved(tally);
         if x < v {
             lo = m;
         } else {
@@ -84,34 +78,26 @@ fn halved(s: &[u32], v: u32, from: usize, to: usize, left: u32) -> Placed
     }
     Placed::At {
         place: hi,
-        probes: probes,
+        tally: tally,
     }
 }
 
-// The search for v in a run's numbers from its position on, with so many probes left.
-pub fn search(s: &[u32], v: u32, left: u32) -> Sought
-    ensures { λ r. ⌜ r ≡ soughtWithin left (seek v (now (s .entry))) ⌝ }
+// The search for v in a run's numbers from its position on.
+pub fn search(s: &[u32], v: u32, before: u64) -> Sought
+    requires { ⌜ undoubled before < 4294967296 ⌝ }
+    ensures { λ r. ⌜ Seeks before (seek v (now (s .entry))) r ⌝ }
 {
-    let Bracketed::Between { lo, hi, probes } = doubled(s, v, left) else {
-        return Sought::Spent {
-            doublings: left,
-            halvings: 0,
-        };
-    };
-    let rest = left - probes;
-    let Placed::At {
-        place,
-        probes: halvings,
-    } = halved(s, v, lo, hi, rest)
-    else {
-        return Sought::Spent {
-            doublings: probes,
-            halvings: rest,
-        };
-    };
-    Sought::Found {
-        place: place,
-        doublings: probes,
-        halvings: halvings,
+    match doubled(s, v, before) {
+        Bracketed::NoneLeft(spent) => Sought::Spent(spent),
+        Bracketed::Between { lo, hi, tally } => match halved(s, v, lo, hi, tally) {
+            Placed::NoneLeft(spent) => Sought::Spent(spent),
+            Placed::At {
+                place,
+                tally: after,
+            } => Sought::Found {
+                place: place,
+                tally: after,
+            },
+        },
     }
 }

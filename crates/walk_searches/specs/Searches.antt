@@ -1,25 +1,35 @@
--- All runs searched, with so many probes left. Definitions only.
+-- All runs searched, with a tally of probes. Definitions only.
 use Prim.Native.Nat.{ℕ, _+_, _<_}
 use mathlib.Core.List.{List, map}
 use mathlib.Core.Path.{_≡_}
-use Rattle.model.specs.Compared.{probesOf}
+use Rattle.model.specs.Compared.{halvingsOf, probesOf}
+use Rattle.model.specs.Rows.{halvingsWithin}
 use Rattle.model.specs.Runs.{Run}
-use Rattle.model.specs.Walk.{searches, searched}
+use Rattle.model.specs.Walk.{Event, searches, searched}
 use Rattle.walk_state.specs.State.{Holds}
 use Rattle.walk_state.specs.Moves.{PlacedAt}
 use Rattle.walk_seek.specs.declared.Probed.{Probed}
 use Rattle.walk_seek.specs.declared.Probed.the-variants.{Left, NoneLeft}
+use Rattle.walk_tally.specs.Tally.{leftIn, halvedIn}
 use Rattle.walk_searches.specs.declared.Moved.{Moved}
 use Rattle.walk_searches.specs.declared.Moved.the-variants.{On, Spent}
 
--- all runs searched whose head is below v, with so many probes left
+-- the tally after some searches
+abbrev pub Tallied : List Event → ℕ → ℕ → Type 0
+Tallied es tally after = (leftIn after + probesOf es ≡ leftIn tally) × (halvedIn after ≡ halvedIn tally + halvingsOf es)
+
+-- and where the probes ran out in them: all that were left are made
+abbrev pub Exhausted : List Event → ℕ → ℕ → Type 0
+Exhausted es tally after =
+    (leftIn tally < probesOf es) × (leftIn after ≡ 0) × (halvedIn after ≡ halvedIn tally + halvingsWithin (leftIn tally) es)
+
+-- all runs searched whose head is below v
 abbrev pub SearchedRuns : List ℕ → List ℕ → List Run → ℕ → ℕ → List ℕ → List ℕ → Moved → Type 0
-SearchedRuns numbers ends rs v left positions′ keys′ (On next after) =
-    (after + probesOf (searches v rs) ≡ left) × Holds numbers ends positions′ keys′ next (map (searched v) rs)
-SearchedRuns numbers ends rs v left positions′ keys′ Spent = left < probesOf (searches v rs)
+SearchedRuns numbers ends rs v tally positions′ keys′ (On next after) =
+    Tallied (searches v rs) tally after × Holds numbers ends positions′ keys′ next (map (searched v) rs)
+SearchedRuns numbers ends rs v tally positions′ keys′ (Spent after) = Exhausted (searches v rs) tally after
 
 -- the same, where keys are not put back
 abbrev pub SearchedEach : List ℕ → List ℕ → List Run → ℕ → ℕ → List ℕ → Probed → Type 0
-SearchedEach numbers ends rs v left positions′ (Left after) =
-    (after + probesOf (searches v rs) ≡ left) × PlacedAt numbers ends (map (searched v) rs) positions′
-SearchedEach numbers ends rs v left positions′ NoneLeft = left < probesOf (searches v rs)
+SearchedEach numbers ends rs v tally positions′ (Left after) = Tallied (searches v rs) tally after × PlacedAt numbers ends (map (searched v) rs) positions′
+SearchedEach numbers ends rs v tally positions′ (NoneLeft after) = Exhausted (searches v rs) tally after

@@ -1,13 +1,15 @@
 // The runs whose head is below v searched for v, in rising run number, and their keys put back.
+ghost use Prim.Native.Nat.{_<_};
 ghost use Rattle.walk_state.specs.State.{runsAt};
 ghost use Rattle.walk_state.specs.Moves.{Searchable, SearchReady};
+ghost use Rattle.walk_tally.specs.Tally.{undoubled};
 ghost use Rattle.walk_searches.specs.Searches.{SearchedEach, SearchedRuns};
 use walk_seek::Probed;
 
-// Runs moved, with where the row of keys starts and the probes left; or no probe was left for a search.
+// Runs moved, with where the row of keys starts and the tally of probes (walk_tally); or no probe was left for a search, and the tally then.
 pub enum Moved {
-    On { start: usize, left: u32 },
-    Spent,
+    On { start: usize, tally: u64 },
+    Spent(u64),
 }
 
 // Searches, in rising run number, each run that `movers` names. At most as many turns as there are runs.
@@ -17,23 +19,24 @@ fn search_each(
     positions: &mut [u32],
     movers: u64,
     v: u32,
-    allowed: u32,
+    allowed: u64,
 ) -> Probed
-    requires { ⌜ Searchable (now numbers) (now ends) (now positions) movers v ⌝ }
+    requires { ⌜ Searchable (now numbers) (now ends) (now positions) movers v × (undoubled allowed < 4294967296) ⌝ }
     ensures { λ r. ⌜ SearchedEach (now (numbers .entry)) (now (ends .entry)) (runsAt 0 (now (numbers .entry)) (now (positions .entry)) (now (ends .entry))) v allowed (now (positions .exit)) r ⌝ }
 {
     let mut rest = movers;
-    let mut left = allowed;
+    let mut tally = allowed;
     while 0 < rest {
         let run = mask::lowest_run(rest);
-        let Probed::Left(after) = walk_seek::search_run(numbers, ends, positions, run, v, left)
-        else {
-            return Probed::NoneLeft;
-        };
-        left = after;
+        match walk_seek::search_run(numbers, ends, positions, run, v, tally) {
+            Probed::NoneLeft(spent) => return Probed::NoneLeft(spent),
+            Probed::Left(after) => {
+                tally = after;
+            }
+        }
         rest = mask::without_lowest(rest);
     }
-    Probed::Left(left)
+    Probed::Left(tally)
 }
 
 // Searches each run that `movers` names, and then puts their keys back: a search and a place in the row are both hard to foretell, and apart they cost less.
@@ -45,18 +48,20 @@ pub fn search_runs(
     from: usize,
     movers: u64,
     v: u32,
-    allowed: u32,
+    allowed: u64,
     count: usize,
 ) -> Moved
-    requires { ⌜ SearchReady (now numbers) (now ends) (now positions) (now keys) from movers v ⌝ }
+    requires { ⌜ SearchReady (now numbers) (now ends) (now positions) (now keys) from movers v × (undoubled allowed < 4294967296) ⌝ }
     ensures { λ r. ⌜ SearchedRuns (now (numbers .entry)) (now (ends .entry)) (runsAt 0 (now (numbers .entry)) (now (positions .entry)) (now (ends .entry))) v allowed (now (positions .exit)) (now (keys .exit)) r ⌝ }
 {
-    let Probed::Left(left) = search_each(numbers, ends, positions, movers, v, allowed) else {
-        return Moved::Spent;
-    };
-    let start = walk_put::put_runs(numbers, ends, positions, keys, from, movers, count);
-    Moved::On {
-        start: start,
-        left: left,
+    match search_each(numbers, ends, positions, movers, v, allowed) {
+        Probed::NoneLeft(spent) => Moved::Spent(spent),
+        Probed::Left(tally) => {
+            let start = walk_put::put_runs(numbers, ends, positions, keys, from, movers, count);
+            Moved::On {
+                start: start,
+                tally: tally,
+            }
+        }
     }
 }

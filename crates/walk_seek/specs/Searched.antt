@@ -1,20 +1,22 @@
--- One run searched, with so many probes left. Definitions only.
-use Prim.Native.Nat.{ℕ, _+_, _≤_, _<_}
+-- One run searched, with a tally of probes. Definitions only.
+use Prim.Native.Nat.{ℕ, _+_, _-_, _≤_, _<_}
 use mathlib.Core.List.{List}
 use mathlib.Core.Path.{_≡_}
 use lib.ListN.{getD, set}
 use Rattle.model.specs.Runs.{slice}
 use Rattle.model.specs.Walk.{seek}
+use Rattle.walk_tally.specs.Tally.{leftIn, halvedIn}
 use Rattle.walk_seek.specs.declared.Probed.{Probed}
 use Rattle.walk_seek.specs.declared.Probed.the-variants.{Left, NoneLeft}
 
--- one run searched with so many probes left
+-- One run searched, with the tally before it and after it. Where the probes run out all that were left are made, the doubling probes first.
 abbrev pub SearchedRun : List ℕ → List ℕ → List ℕ → ℕ → ℕ → ℕ → List ℕ → Probed → Type 0
-SearchedRun numbers ends positions run v left positions′ (Left after) =
+SearchedRun numbers ends positions run v tally positions′ (Left after) =
     let p = getD positions run 0 in
     let e = getD ends run 0 in
     let f = seek v (slice numbers p e) in
-    (after + (f .doublings + f .halvings) ≡ left) × (positions′ ≡ set positions run (p + f .place)) × (p + f .place ≤ e)
-SearchedRun numbers ends positions run v left positions′ NoneLeft =
+    (leftIn after + (f .doublings + f .halvings) ≡ leftIn tally) × (halvedIn after ≡ halvedIn tally + f .halvings)
+    × (positions′ ≡ set positions run (p + f .place)) × (p + f .place ≤ e)
+SearchedRun numbers ends positions run v tally positions′ (NoneLeft after) =
     let f = seek v (slice numbers (getD positions run 0) (getD ends run 0)) in
-    left < f .doublings + f .halvings
+    (leftIn tally < f .doublings + f .halvings) × (leftIn after ≡ 0) × (halvedIn after ≡ halvedIn tally + (leftIn tally - f .doublings))

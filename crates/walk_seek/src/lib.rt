@@ -3,13 +3,14 @@ ghost use mathlib.Core.Path.{_≡_};
 ghost use Prim.Native.Nat.{_<_};
 ghost use lib.ListN.{length, getD};
 ghost use Rattle.walk_state.specs.Moves.{Placeable};
+ghost use Rattle.walk_tally.specs.Tally.{undoubled};
 ghost use Rattle.walk_seek.specs.Searched.{SearchedRun};
 use walk_search::Sought;
 
-// The probes left after a search; or that there was none left for it.
+// The tally after a search (walk_tally); or the tally where no probe was left for it.
 pub enum Probed {
-    Left(u32),
-    NoneLeft,
+    Left(u64),
+    NoneLeft(u64),
 }
 
 // The places in `numbers` that a search goes through.
@@ -35,24 +36,24 @@ pub fn search_run(
     positions: &mut [u32],
     run: u32,
     v: u32,
-    left: u32,
+    tally: u64,
 ) -> Probed
-    requires { ⌜ Placeable (now numbers) (now ends) (now positions) run ⌝ }
-    ensures { λ r. ⌜ SearchedRun (now (numbers .entry)) (now (ends .entry)) (now (positions .entry)) run v left (now (positions .exit)) r ⌝ }
+    requires { ⌜ Placeable (now numbers) (now ends) (now positions) run × (undoubled tally < 4294967296) ⌝ }
+    ensures { λ r. ⌜ SearchedRun (now (numbers .entry)) (now (ends .entry)) (now (positions .entry)) run v tally (now (positions .exit)) r ⌝ }
 {
     let i = arith::usize_of_u32(run);
     let places = searched_places(ends, positions, i);
     let p = places.from;
     let e = places.to;
-    let Sought::Found {
-        place,
-        doublings,
-        halvings,
-    } = walk_search::search(&numbers[p..e], v, left)
-    else {
-        return Probed::NoneLeft;
-    };
-    let q = p + place;
-    positions[i] = q as u32;
-    Probed::Left(left - (doublings + halvings))
+    match walk_search::search(&numbers[p..e], v, tally) {
+        Sought::Spent(spent) => Probed::NoneLeft(spent),
+        Sought::Found {
+            place,
+            tally: after,
+        } => {
+            let q = p + place;
+            positions[i] = q as u32;
+            Probed::Left(after)
+        }
+    }
 }

@@ -139,7 +139,7 @@ module _ (numbers ends positions keys : List ℕ) (t : ℕ) (w : State) (n named
   pub passed-on : (positions′ keys′ : List ℕ) (start : ℕ) → w .floor ≢ lastBin
       → Holds numbers ends positions′ keys′ start (map (stepNamed named) runs′)
       → Passes numbers ends positions t w positions′ keys′
-      (On (record { floor = w .floor + 1; start = start; answers = w .answers; parts = w .parts; bytes = w .bytes; left = w .left }))
+      (On (record { floor = w .floor + 1; start = start; answers = w .answers; parts = w .parts; bytes = w .bytes; tally = w .tally }))
   unfolding countsOf
   passed-on positions′ keys′ start q h =
       let b = s .bin in
@@ -156,6 +156,7 @@ module _ (numbers ends positions keys : List ℕ) (t : ℕ) (w : State) (n named
               let p = map-mem (movedOn (w .floor)) runs′ r (subst (λ x. List·Memᴰ r x) i k) in
               subst (λ x. Rise (w .floor + 1) (x .bins)) (sym (p .2)) (subst (λ x. Rise x (movedOn (w .floor) (p .0) .bins)) (sym e) (moved-rises (w .floor) (p .0) b (s .rising (p .0) (p .1))));
           bin = omega arith;
+          allowed = s .allowed;
         },
         omega arith,
         e,

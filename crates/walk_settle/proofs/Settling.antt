@@ -24,18 +24,20 @@ use Rattle.walk_write.proofs.Rows.{front-mask, front-count}
 use Rattle.walk_progress.specs.Progress.{onward}
 use Rattle.walk_progress.proofs.Rounds.{settle-passes, settle-answers, settle-ends}
 use Rattle.walk_state.specs.State.{runsAt, Holds}
+use Rattle.walk_tally.specs.Tally.{undoubled}
 use Rattle.walk_state.proofs.Choosing.{idle-equal, idle-mask, moved-keeps}
 
--- a state with the same floor and start stands where the other does
-pub stands-same : (numbers ends positions keys : List ℕ) (t : ℕ) (w x : State) → x .floor ≡ w .floor → x .start ≡ w .start
+-- a state with the same floor, start and tally stands where the other does
+pub stands-same : (numbers ends positions keys : List ℕ) (t : ℕ) (w x : State) → x .floor ≡ w .floor → x .start ≡ w .start → x .tally ≡ w .tally
     → Stands numbers ends positions keys t w → Stands numbers ends positions keys t x
-stands-same numbers ends positions keys t w x e f s =
+stands-same numbers ends positions keys t w x e f l s =
     record {
       few = s .few;
       some = s .some;
       holds = subst (λ z. Holds numbers ends positions keys z (runsAt 0 numbers positions ends)) (sym f) (s .holds);
       rising = λ r m. subst (λ z. Rise z (r .bins)) (sym e) (s .rising r m);
       bin = let b = s .bin in omega arith;
+      allowed = subst (λ z. undoubled z < 4294967296) (sym l) (s .allowed);
     }
 
 module _ (numbers ends positions keys A B : List ℕ) (t : ℕ) (w : State) (n named : ℕ) (s : Stands numbers ends positions keys t w)
@@ -121,7 +123,7 @@ module _ (numbers ends positions keys A B : List ℕ) (t : ℕ) (w : State) (n n
   pub stands-after : (x : State) (A′ B′ : List ℕ) → Answers w named A B A′ B′ (answered′.On x)
       → Stands numbers ends positions keys t x × AtFloor numbers ends positions keys x n named
   stands-after x A′ B′ a = (
-    stands-same numbers ends positions keys t w x (a .1) (a .2) s,
+    stands-same numbers ends positions keys t w x (a .1) (a .2) (a .3) s,
     record {
       counts = counts ∙ (λ i. belowCount ((sym (a .1) i + 1) * 256) (drop (sym (a .2) i) keys));
       names-them = named-is ∙ ap (λ y. mask (λ r. eqb (head r) y) rs) (sym (a .1));
@@ -132,8 +134,8 @@ module _ (numbers ends positions keys A B : List ℕ) (t : ℕ) (w : State) (n n
       → Passes numbers ends positions t x positions′ keys′ (Done x′) → Ensured positions′ keys′ A′ B′ (Done x′)
   unfolding goesOn endsWith
   answer-ends x x′ A′ B′ positions′ keys′ h a p =
-      let e = ap (λ (y : State). y .left) (p .1) in
-      let l = a .3 in (
+      let e = ap (λ (y : State). undoubled (y .tally)) (p .1) in
+      let l = ap undoubled (a .3) in (
         (λ m c. (
           omega arith,
           λ allowance k o.
@@ -149,9 +151,9 @@ module _ (numbers ends positions keys A B : List ℕ) (t : ℕ) (w : State) (n n
   unfolding goesOn
   answer-goes x x′ A′ B′ positions′ keys′ h a p =
       let f : x .floor ≡ w .floor = a .1 in
-      let l : x .left ≡ w .left = a .3 in
+      let l = ap undoubled (a .3) in
       let g : x′ .floor ≡ suc (x .floor) = p .2 in
-      let j : x′ .left ≡ x .left = p .5 in
+      let j = ap undoubled (p .5) in
       let y : w .floor ≢ lastBin = (let q = p .1 in omega arith) in (
         (λ m c. (
           p .0,

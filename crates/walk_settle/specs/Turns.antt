@@ -15,15 +15,17 @@ use Rattle.walk_write.specs.declared.State.{State}
 use Rattle.walk_write.specs.declared.Turn.{Turn}
 use Rattle.walk_write.specs.declared.Turn.the-variants.{On, Done, Stopped}
 use Rattle.walk_state.specs.State.{runsAt, chosenAt, Holds, Idle}
+use Rattle.walk_tally.specs.Tally.{undoubled}
 use Rattle.walk_write.specs.Writes.{countsOf, goesOn, endsWith, Fitted}
 
--- a state before a round: the rows hold the runs, which rise from the floor on
+-- a state before a round: the rows hold the runs, which rise from the floor on, and its allowance is one of 32 bits
 pub record Stands (numbers ends positions keys : List ℕ) (t : ℕ) (w : State) : Type 0 where
   pub few : length ends ≤ mostRuns
   pub some : 0 < t
   pub holds : Holds numbers ends positions keys (w .start) (runsAt 0 numbers positions ends)
   pub rising : (r : Run) → List·Memᴰ r (runsAt 0 numbers positions ends) → Rise (w .floor) (r .bins)
   pub bin : w .floor < pastBin
+  pub allowed : undoubled (w .tally) < 4294967296
 
 -- a mask chooses some of these runs, at least t, and no other has a number left
 pub record Chooses (m : ℕ) (numbers ends positions : List ℕ) (t : ℕ) : Type 0 where
@@ -34,15 +36,15 @@ pub record Chooses (m : ℕ) (numbers ends positions : List ℕ) (t : ℕ) : Typ
 -- what a walk over the runs that a mask chooses comes to after these events, of which the last are rounds of any number
 abbrev pub Goes : (ℕ → List Event) → ℕ → List ℕ → List ℕ → ℕ → State → List ℕ → List ℕ → List ℕ → List ℕ → List ℕ → List ℕ → Turn → Type 0
 Goes es m numbers ends t w answers certificate positions′ keys′ answers′ certificate′ (On w′) =
-    Stands numbers ends positions′ keys′ t w′ × Chooses m numbers ends positions′ t × Fitted answers′ certificate′ w′ × (w′ .left ≤ w .left)
-    × ((allowance n : ℕ) → w .left ≤ allowance → goesOn allowance w answers certificate (es n)
+    Stands numbers ends positions′ keys′ t w′ × Chooses m numbers ends positions′ t × Fitted answers′ certificate′ w′ × (undoubled (w′ .tally) ≤ undoubled (w .tally))
+    × ((allowance n : ℕ) → undoubled (w .tally) ≤ allowance → goesOn allowance w answers certificate (es n)
     ≡ goesOn allowance w′ answers′ certificate′ (walk n t (w′ .floor) (chosenAt m numbers positions′ ends)))
 Goes es m numbers ends t w answers certificate positions′ keys′ answers′ certificate′ (Done w′) =
-    (w′ .left ≤ w .left)
-    × ((allowance n : ℕ) → w .left ≤ allowance → goesOn allowance w answers certificate (es n) ≡ endsWith 0 allowance w′ answers′ certificate′)
+    (undoubled (w′ .tally) ≤ undoubled (w .tally))
+    × ((allowance n : ℕ) → undoubled (w .tally) ≤ allowance → goesOn allowance w answers certificate (es n) ≡ endsWith 0 allowance w′ answers′ certificate′)
 Goes es m numbers ends t w answers certificate positions′ keys′ answers′ certificate′ (Stopped x w′) =
-    (0 < x) × (w′ .left ≤ w .left)
-    × ((allowance n : ℕ) → w .left ≤ allowance → goesOn allowance w answers certificate (es n) ≡ endsWith x allowance w′ answers′ certificate′)
+    (0 < x) × (undoubled (w′ .tally) ≤ undoubled (w .tally))
+    × ((allowance n : ℕ) → undoubled (w .tally) ≤ allowance → goesOn allowance w answers certificate (es n) ≡ endsWith x allowance w′ answers′ certificate′)
 
 -- after the searches for the floor it stays where it is no answer, and is raised otherwise
 abbrev pub Settles : List Run → ℕ → ℕ → Turn → Type 0
@@ -60,7 +62,7 @@ abbrev pub Passes : List ℕ → List ℕ → List ℕ → ℕ → State → Lis
 Passes numbers ends positions t w positions′ keys′ (On w′) =
     Stands numbers ends positions′ keys′ t w′ × (w .floor < lastBin) × (w′ .floor ≡ suc (w .floor))
     × (runsAt 0 numbers positions′ ends ≡ map (movedOn (w .floor)) (runsAt 0 numbers positions ends))
-    × ((allowance : ℕ) → countsOf allowance w′ ≡ countsOf allowance w) × (w′ .left ≡ w .left)
+    × ((allowance : ℕ) → countsOf allowance w′ ≡ countsOf allowance w) × (w′ .tally ≡ w .tally)
     × ((answers certificate : List ℕ) → Fitted answers certificate w → Fitted answers certificate w′)
 Passes numbers ends positions t w positions′ keys′ (Done w′) = (w .floor ≡ lastBin) × (w′ ≡ w)
 Passes numbers ends positions t w positions′ keys′ (Stopped x w′) = ⊥

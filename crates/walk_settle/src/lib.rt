@@ -40,7 +40,7 @@ fn pass(
         answers: w.answers,
         parts: w.parts,
         bytes: w.bytes,
-        left: w.left,
+        tally: w.tally,
     })
 }
 

@@ -12,10 +12,9 @@ use mathlib.Core.Path.{_≡_, refl, sym, ap, ap₂, _∙_}
 use native.Mathlib.Nat.{zero-div}
 use native.Mathlib.Omega.{arith}
 use Rattle.model.specs.Runs.{Run, pastBin, total, bit, names, slice, mostRuns}
-use Rattle.model.specs.Walk.{head, headOf, seek, searchIn, searches, searched}
-use Rattle.model.specs.Compared.{cost, probe, probesOf}
-use Rattle.model.proofs.Bounds.{search-cost, search-none}
-use Rattle.model.proofs.Events.{cost-searches}
+use Rattle.model.specs.Walk.{head, headOf, seek, searchIn, searched}
+use Rattle.model.specs.Compared.{doublingProbe, halvingProbe, probe, halvingsOf, probesOf}
+use Rattle.model.proofs.Bounds.{search-cost}
 use Rattle.model.proofs.Masks.{Labelled, below-only}
 use Rattle.model.proofs.Tests.{both, lt-or-le, eq-or-ne}
 use Rattle.walk_state.specs.Moves.{Placeable, stepNamed}
@@ -222,13 +221,9 @@ has-number numbers run p e r f b =
 -- ---- probes
 
 pub search-probes : (v : ℕ) (r : Run) → head r < v → probesOf (searchIn v r) ≡ seek v (r .bins) .doublings + seek v (r .bins) .halvings
-unfolding probesOf probe
-search-probes v r h = let c = search-cost probe v 1 r refl refl refl h in omega arith
+unfolding probesOf probe doublingProbe halvingProbe
+search-probes v r h = let c = search-cost probe v 0 1 1 r refl refl refl h in omega arith
 
-pub no-probes : (v : ℕ) (r : Run) → v ≤ head r → probesOf (searchIn v r) ≡ 0
-unfolding probesOf cost
-no-probes v r h = rw (search-none v r h)
-
-pub all-probes : (v : ℕ) (rs : List Run) → probesOf (searches v rs) ≡ total (λ r. probesOf (searchIn v r)) rs
-unfolding probesOf
-all-probes v rs = cost-searches probe v rs
+pub search-halvings : (v : ℕ) (r : Run) → head r < v → halvingsOf (searchIn v r) ≡ seek v (r .bins) .halvings
+unfolding halvingsOf halvingProbe
+search-halvings v r h = let c = search-cost halvingProbe v 0 0 1 r refl refl refl h in omega arith

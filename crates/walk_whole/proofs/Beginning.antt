@@ -26,23 +26,24 @@ use Rattle.walk_state.specs.State.{runsAt, chosenAt, Holds, Idle}
 
 -- the state before the first round
 abbrev pub firstState : ℕ → ℕ → ℕ → ℕ → State
-firstState start answered written left = record { floor = 0; start = start; answers = answered; parts = 0; bytes = written; left = left }
+firstState start answered written tally = record { floor = 0; start = start; answers = answered; parts = 0; bytes = written; tally = tally }
 
-module _ (numbers ends : List ℕ) (m t : ℕ) (positions keys A B : List ℕ) (answered written : ℕ) (b : Begins numbers ends m t positions keys A B answered written) where
+module _ (numbers ends : List ℕ) (m t : ℕ) (positions keys A B : List ℕ) (answered written tally : ℕ)
+    (b : Begins numbers ends m t positions keys A B answered written tally) where
   pub begin-ready : BeginReady numbers ends positions × (m < 2 ^ length ends) × (length keys ≡ length ends)
   begin-ready =
       let p = chosen-passed numbers ends m t (b .asked .checked) in
       (record { few = p .few-runs; rise = p .lists .ends-rise; last = p .lists .ends-last; size = b .positions-size }, p .only, b .keys-size)
 
-  module _ (fits : Fits pastBin numbers) (positions′ keys′ : List ℕ) (start left : ℕ) (h : Holds numbers ends positions′ keys′ start (map (standing m) (runs numbers ends))) where
+  module _ (fits : Fits pastBin numbers) (positions′ keys′ : List ℕ) (start : ℕ) (h : Holds numbers ends positions′ keys′ start (map (standing m) (runs numbers ends))) where
     rising : (r : Run) → List·Memᴰ r (runsAt 0 numbers positions′ ends) → Rise 0 (r .bins)
     rising r i =
         let p = chosen-passed numbers ends m t (b .asked .checked) in
         let q = map-mem (standing m) (runs numbers ends) r (subst (λ x. List·Memᴰ r x) (h .runs-are) i) in
         subst (λ (x : Run). Rise 0 (x .bins)) (sym (q .2)) (standing-rises m 0 (q .0) (runs-rising numbers ends fits (p .lists) .each (q .0) (q .1)))
 
-    pub stands-first : Stands numbers ends positions′ keys′ t (firstState start answered written left) × Chooses m numbers ends positions′ t
-        × Fitted A B (firstState start answered written left)
+    pub stands-first : Stands numbers ends positions′ keys′ t (firstState start answered written tally) × Chooses m numbers ends positions′ t
+        × Fitted A B (firstState start answered written tally)
     stands-first =
         let p = chosen-passed numbers ends m t (b .asked .checked) in (
           record {
@@ -51,6 +52,7 @@ module _ (numbers ends : List ℕ) (m t : ℕ) (positions keys A B : List ℕ) (
             holds = subst (λ x. Holds numbers ends positions′ keys′ start x) (sym (h .runs-are)) h;
             rising = rising;
             bin = let e = past-is in omega arith;
+            allowed = b .asked .allowed;
           },
           record { only = p .only; enough = p .met; idle = subst (λ x. Idle m x) (sym (h .runs-are)) (standing-idle m (runs numbers ends)) },
           record { answered = b .asked .answers-fit; written = b .asked .bytes-fit; parts = omega arith },
@@ -60,13 +62,13 @@ module _ (numbers ends : List ℕ) (m t : ℕ) (positions keys A B : List ℕ) (
     chosen-first : chosen m (runs numbers ends) ≡ chosenAt m numbers positions′ ends
     chosen-first = sym (ap (chosen m) (h .runs-are) ∙ standing-chosen m (runs numbers ends))
 
-    pub comes-first : (A′ B′ : List ℕ) (r : End) → Finishes (chosenAt m numbers positions′ ends) t (firstState start answered written left) A B A′ B′ r
-        → ComesTo numbers ends m t answered written left A B A′ B′ r
+    pub comes-first : (A′ B′ : List ℕ) (r : End) → Finishes (chosenAt m numbers positions′ ends) t (firstState start answered written tally) A B A′ B′ r
+        → ComesTo numbers ends m t answered written tally A B A′ B′ r
     unfolding goesOn countsOf countsFrom wholeWalk
     comes-first A′ B′ r f =
         record {
           left-then = f .left;
           as-asked = λ allowance l.
-              (λ i. onward allowance (countsFrom allowance answered written left) A B (walk pastBin t (first-least i) (chosen-first i)))
+              (λ i. onward allowance (countsFrom allowance answered written tally) A B (walk pastBin t (first-least i) (chosen-first i)))
               ∙ f .comes-to allowance pastBin l (omega arith);
         }

@@ -1,5 +1,5 @@
 -- The walk of a question over chosen runs from its beginning to its end, in buffers that hold what the questions before it wrote. Definitions only.
-use Prim.Native.Nat.{ℕ, _-_, _≤_}
+use Prim.Native.Nat.{ℕ, _-_, _≤_, _<_}
 use mathlib.Core.List.{List}
 use mathlib.Core.Path.{_≡_}
 use lib.ListN.{length}
@@ -8,27 +8,30 @@ use Rattle.model.specs.Refusals.{passed, chosenChecks}
 use Rattle.model.specs.Runs.{runs, chosen}
 use Rattle.walk_progress.specs.Progress.{Counts, onward}
 use Rattle.walk_rounds.specs.declared.End.{End}
+use Rattle.walk_tally.specs.Tally.{halvedIn, undoubled}
 use Rattle.walk_write.specs.Writes.{endsWith}
 
--- a question that passed the first checks, and buffers in which so many answers and bytes stand
-pub record Asked (numbers ends : List ℕ) (m t : ℕ) (answers certificate : List ℕ) (answered written : ℕ) : Type 0 where
+-- a question that passed the first checks, buffers in which so many answers and bytes stand, and the tally of an allowance of 32 bits
+pub record Asked (numbers ends : List ℕ) (m t : ℕ) (answers certificate : List ℕ) (answered written tally : ℕ) : Type 0 where
   pub checked : chosenChecks numbers ends m t ≡ passed
   pub answers-fit : answered ≤ length answers
   pub bytes-fit : written ≤ length certificate
+  pub allowed : undoubled tally < 4294967296
 
 -- the same with rows for its walk
-pub record Begins (numbers ends : List ℕ) (m t : ℕ) (positions keys answers certificate : List ℕ) (answered written : ℕ) : Type 0 where
-  pub asked : Asked numbers ends m t answers certificate answered written
+pub record Begins (numbers ends : List ℕ) (m t : ℕ) (positions keys answers certificate : List ℕ) (answered written tally : ℕ) : Type 0 where
+  pub asked : Asked numbers ends m t answers certificate answered written tally
   pub positions-size : length positions ≡ length ends
   pub keys-size : length keys ≡ length ends
 
--- the counts where it begins, so much of the allowance being left: its parts are counted from 0
+-- the counts where it begins: its parts are counted from 0
 unfoldable pub countsFrom : ℕ → ℕ → ℕ → ℕ → Counts
-countsFrom allowance answered written left = record { answers = answered; parts = 0; bytes = written; probes = allowance - left }
+countsFrom allowance answered written tally =
+    record { answers = answered; parts = 0; bytes = written; doublings = allowance - undoubled tally; halvings = halvedIn tally }
 
--- The walk ended so, and with these buffers, as the question does, of whatever allowance so much was left.
-pub record ComesTo (numbers ends : List ℕ) (m t answered written left : ℕ) (answers certificate answers′ certificate′ : List ℕ) (r : End) : Type 0 where
-  pub left-then : r .at .left ≤ left
-  pub as-asked : (allowance : ℕ) → left ≤ allowance
-      → onward allowance (countsFrom allowance answered written left) answers certificate (wholeWalk t (chosen m (runs numbers ends)))
+-- The walk ended so, and with these buffers, as the question does, of whatever allowance the tally was.
+pub record ComesTo (numbers ends : List ℕ) (m t answered written tally : ℕ) (answers certificate answers′ certificate′ : List ℕ) (r : End) : Type 0 where
+  pub left-then : undoubled (r .at .tally) ≤ undoubled tally
+  pub as-asked : (allowance : ℕ) → undoubled tally ≤ allowance
+      → onward allowance (countsFrom allowance answered written tally) answers certificate (wholeWalk t (chosen m (runs numbers ends)))
       ≡ endsWith (r .number) allowance (r .at) answers′ certificate′

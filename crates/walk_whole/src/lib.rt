@@ -4,7 +4,7 @@ use walk_rounds::End;
 use walk_write::State;
 
 // The walk over the chosen runs, from its beginning to its end. `answered` answers and `written` bytes stand in the buffers, and the walk writes
-// after them; `left` probes are left of the allowance. Parts are counted from 0.
+// after them; `tally` tells how its probes are spent so far (walk_tally). Parts are counted from 0.
 fn whole_walk(
     numbers: &[u32],
     ends: &[u32],
@@ -16,10 +16,10 @@ fn whole_walk(
     certificate: &mut [u8],
     answered: usize,
     written: usize,
-    left: u32,
+    tally: u64,
 ) -> End
-    requires { ⌜ Begins (now numbers) (now ends) chosen threshold (now positions) (now keys) (now answers) (now certificate) answered written ⌝ }
-    ensures { λ r. ⌜ ComesTo (now (numbers .entry)) (now (ends .entry)) chosen threshold answered written left (now (answers .entry)) (now (certificate .entry)) (now (answers .exit)) (now (certificate .exit)) r ⌝ }
+    requires { ⌜ Begins (now numbers) (now ends) chosen threshold (now positions) (now keys) (now answers) (now certificate) answered written tally ⌝ }
+    ensures { λ r. ⌜ ComesTo (now (numbers .entry)) (now (ends .entry)) chosen threshold answered written tally (now (answers .entry)) (now (certificate .entry)) (now (answers .exit)) (now (certificate .exit)) r ⌝ }
 {
     let start = walk_step::begin(numbers, ends, chosen, positions, keys);
     walk_rounds::all_rounds(
@@ -37,7 +37,7 @@ fn whole_walk(
             answers: answered,
             parts: 0,
             bytes: written,
-            left: left,
+            tally: tally,
         },
     )
 }
@@ -53,10 +53,10 @@ pub fn question_walk(
     certificate: &mut [u8],
     answered: usize,
     written: usize,
-    left: u32,
+    tally: u64,
 ) -> End
-    requires { ⌜ Asked (now numbers) (now ends) chosen threshold (now answers) (now certificate) answered written ⌝ }
-    ensures { λ r. ⌜ ComesTo (now (numbers .entry)) (now (ends .entry)) chosen threshold answered written left (now (answers .entry)) (now (certificate .entry)) (now (answers .exit)) (now (certificate .exit)) r ⌝ }
+    requires { ⌜ Asked (now numbers) (now ends) chosen threshold (now answers) (now certificate) answered written tally ⌝ }
+    ensures { λ r. ⌜ ComesTo (now (numbers .entry)) (now (ends .entry)) chosen threshold answered written tally (now (answers .entry)) (now (certificate .entry)) (now (answers .exit)) (now (certificate .exit)) r ⌝ }
 {
     let mut positions = [0u32; limits::MOST_RUNS];
     let mut keys = [0u64; limits::MOST_RUNS];
@@ -72,6 +72,6 @@ pub fn question_walk(
         certificate,
         answered,
         written,
-        left,
+        tally,
     )
 }

@@ -14,6 +14,7 @@ use Rattle.model.specs.Walk.{wrote}
 use Rattle.model.proofs.Tests.{lt-or-le}
 use Rattle.walk_progress.specs.Progress.{onward, ended, withGap, withAnswer}
 use Rattle.walk_progress.proofs.Progress.{size-gap, size-answer, onward-gap, gap-full, onward-answer, answers-full, answer-full}
+use Rattle.walk_tally.specs.Tally.{halvedIn, undoubled}
 use Rattle.walk_write.specs.Writes.{countsOf, goesOn, endsWith, Fitted, Writes, gapEvents, Answers}
 use Rattle.walk_write.specs.declared.Answered.the-variants as answered′
 use Rattle.walk_write.specs.declared.State.{State}
@@ -23,7 +24,7 @@ use Rattle.walk_write.specs.declared.Wrote.the-variants as wrote′
 
 -- the state after a gap
 abbrev pub afterGap : State → ℕ → State
-afterGap w bytes = record { floor = w .floor; start = w .start; answers = w .answers; parts = w .parts + 1; bytes = bytes; left = w .left }
+afterGap w bytes = record { floor = w .floor; start = w .start; answers = w .answers; parts = w .parts + 1; bytes = bytes; tally = w .tally }
 
 pub gap-on : (w : State) (B B′ : List ℕ) (last named bytes : ℕ) → w .bytes ≤ length B → w .parts ≤ w .bytes
     → Next bytes ≡ storedResult B (w .bytes) (gap (w .floor) last named) → B′ ≡ stored B (w .bytes) (gap (w .floor) last named)
@@ -41,10 +42,10 @@ gap-on w B B′ last named bytes h p e f =
     let b₁₉ : w .bytes + 19 ≡ bytes = omega arith in
     let k : B′ ≡ placed B (w .bytes) (encodePart (gap (w .floor) last named)) = f ∙ stored-fits B (w .bytes) (gap (w .floor) last named) q in
     let n = ap length f ∙ stored-length B (w .bytes) (gap (w .floor) last named) in (
-      record { size = n; floor = refl; start = refl; answers = refl; left = refl; written = omega arith; parts = omega arith },
+      record { size = n; floor = refl; start = refl; answers = refl; tally = refl; written = omega arith; parts = omega arith },
       λ allowance A es.
           onward-gap allowance (countsOf allowance w) A B (w .floor) last named es (omega arith)
-          ∙ (λ i. onward allowance (record { answers = w .answers; parts = w .parts + 1; bytes = b₁₉ i; probes = allowance - w .left }) A (sym k i) es),
+          ∙ (λ i. onward allowance (record { answers = w .answers; parts = w .parts + 1; bytes = b₁₉ i; doublings = allowance - undoubled (w .tally); halvings = halvedIn (w .tally) }) A (sym k i) es),
     ))
     (lt-or-le (length B) (w .bytes + sizeOf (gap (w .floor) last named)))
 
@@ -76,7 +77,7 @@ no-gap-events f v named h = rw (le-ltb f v h, gapEvents)
 pub no-gap : (w : State) (B : List ℕ) (v named : ℕ) → w .bytes ≤ length B → w .parts ≤ w .bytes → v ≤ w .floor
     → Writes (gapEvents (w .floor) v named) w B B (wrote′.On w)
 no-gap w B v named h p q = (
-  record { size = refl; floor = refl; start = refl; answers = refl; left = refl; written = h; parts = p },
+  record { size = refl; floor = refl; start = refl; answers = refl; tally = refl; written = h; parts = p },
   λ allowance A es. ap (λ x. goesOn allowance w A B (x ++ es)) (no-gap-events (w .floor) v named q),
 )
 
@@ -87,7 +88,7 @@ some-gap w B B′ v named r q h = subst (λ x. Writes x w B B′ r) (sym (gap-ev
 -- ---- an answer
 
 abbrev pub afterAnswer : State → ℕ → State
-afterAnswer w bytes = record { floor = w .floor; start = w .start; answers = w .answers + 1; parts = w .parts + 1; bytes = bytes; left = w .left }
+afterAnswer w bytes = record { floor = w .floor; start = w .start; answers = w .answers + 1; parts = w .parts + 1; bytes = bytes; tally = w .tally }
 
 pub answer-on : (w : State) (A B B′ : List ℕ) (named bytes : ℕ) → Fitted A B w → w .answers ≢ length A
     → Next bytes ≡ storedResult B (w .bytes) (answer (w .floor) named) → B′ ≡ stored B (w .bytes) (answer (w .floor) named)
@@ -114,7 +115,7 @@ answer-on w A B B′ named bytes h x e f =
       refl,
       λ allowance es.
           onward-answer allowance (countsOf allowance w) A B (w .floor) named es (omega arith) (omega arith)
-          ∙ (λ i. onward allowance (record { answers = w .answers + 1; parts = w .parts + 1; bytes = b₁₅ i; probes = allowance - w .left })
+          ∙ (λ i. onward allowance (record { answers = w .answers + 1; parts = w .parts + 1; bytes = b₁₅ i; doublings = allowance - undoubled (w .tally); halvings = halvedIn (w .tally) })
           (set A (w .answers) (w .floor)) (sym k i) es),
     ))
     (lt-or-le (length B) (w .bytes + sizeOf (answer (w .floor) named)))

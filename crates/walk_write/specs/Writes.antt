@@ -9,6 +9,7 @@ use Rattle.model.specs.Certificate.{answer, gap}
 use Rattle.model.specs.Walk.{Event, wrote}
 use Rattle.walk_keys.specs.Row.{noKey, Labels, labelSum}
 use Rattle.walk_progress.specs.Progress.{Counts, ended, onward}
+use Rattle.walk_tally.specs.Tally.{halvedIn, undoubled}
 use Rattle.walk_write.specs.declared.Answered.{Answered}
 use Rattle.walk_write.specs.declared.Answered.the-variants as answered′
 use Rattle.walk_write.specs.declared.State.{State}
@@ -18,9 +19,10 @@ use Rattle.walk_write.specs.declared.Wrote.{Wrote}
 use Rattle.walk_write.specs.declared.Wrote.the-variants as wrote′
 use Rattle.model.specs.Runs.{lastBin}
 
--- the counts of a state, of whose allowance so much is left
+-- the counts of a state
 unfoldable pub countsOf : ℕ → State → Counts
-countsOf allowance w = record { answers = w .answers; parts = w .parts; bytes = w .bytes; probes = allowance - w .left }
+countsOf allowance w =
+    record { answers = w .answers; parts = w .parts; bytes = w .bytes; doublings = allowance - undoubled (w .tally); halvings = halvedIn (w .tally) }
 
 -- what a question comes to from a state on
 unfoldable pub goesOn : ℕ → State → List ℕ → List ℕ → List Event → Rattle.model.specs.Refusals.Answered
@@ -41,7 +43,7 @@ pub record Grown (w : State) (certificate : List ℕ) (w′ : State) (certificat
   pub floor : w′ .floor ≡ w .floor
   pub start : w′ .start ≡ w .start
   pub answers : w′ .answers ≡ w .answers
-  pub left : w′ .left ≡ w .left
+  pub tally : w′ .tally ≡ w .tally
   pub written : w′ .bytes ≤ length certificate′
   pub parts : w′ .parts ≤ w′ .bytes
 
@@ -61,7 +63,7 @@ gapEvents floor v named = elim (ltb floor v) [ true ↦ wrote (gap floor (v - 1)
 -- an answer is written, or a buffer is full
 abbrev pub Answers : State → ℕ → List ℕ → List ℕ → List ℕ → List ℕ → Answered → Type 0
 Answers w named answers certificate answers′ certificate′ (answered′.On w′) =
-    Fitted answers′ certificate′ w′ × (w′ .floor ≡ w .floor) × (w′ .start ≡ w .start) × (w′ .left ≡ w .left)
+    Fitted answers′ certificate′ w′ × (w′ .floor ≡ w .floor) × (w′ .start ≡ w .start) × (w′ .tally ≡ w .tally)
     × ((allowance : ℕ) (es : List Event) → goesOn allowance w answers certificate (wrote (answer (w .floor) named) ∷ es) ≡ goesOn allowance w′ answers′ certificate′ es)
 Answers w named answers certificate answers′ certificate′ (answered′.Full x) =
     (0 < x)

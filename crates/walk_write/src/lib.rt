@@ -7,14 +7,14 @@ ghost use Rattle.model.specs.Walk.{wrote};
 ghost use Rattle.walk_write.specs.Writes.{LastReady, LastGap, Fitted, Writes, gapEvents, Answers};
 use field_write::Written;
 
-// Where a walk stands: the floor, where the row of keys starts, what is written, and the probes left.
+// Where a walk stands: the floor, where the row of keys starts, what is written, and the tally of its probes (walk_tally).
 pub struct State {
     pub floor: u32,
     pub start: usize,
     pub answers: usize,
     pub parts: usize,
     pub bytes: usize,
-    pub left: u32,
+    pub tally: u64,
 }
 
 // A part is written, or does not fit.
@@ -51,7 +51,7 @@ fn gap_to(certificate: &mut [u8], w: State, last: u32, named: u64) -> Wrote
         answers: w.answers,
         parts: w.parts + 1,
         bytes: bytes,
-        left: w.left,
+        tally: w.tally,
     })
 }
 
@@ -98,6 +98,6 @@ pub fn write_answer(answers: &mut [u32], certificate: &mut [u8], w: State, named
         answers: at + 1,
         parts: w.parts + 1,
         bytes: bytes,
-        left: w.left,
+        tally: w.tally,
     })
 }

@@ -21,8 +21,8 @@ part-put-parts-end c = search needs
 put-parts-requires : tie.Need-put-parts-requires
 put-parts-requires c κs = search needs
 
-slice-aggregate-put-three : tie.Need-slice-aggregate-put-three
-slice-aggregate-put-three c = search needs
+slice-aggregate-put-four : tie.Need-slice-aggregate-put-four
+slice-aggregate-put-four c = search needs
 
 u64-of-usize-requires : tie.Need-u64-of-usize-requires
 u64-of-usize-requires c κs = search needs
@@ -33,8 +33,11 @@ u64-of-usize-requires-2 c κs = search needs
 u64-of-u32-requires : tie.Need-u64-of-u32-requires
 u64-of-u32-requires c κs = search needs
 
-put-three-requires : tie.Need-put-three-requires
-put-three-requires c κs = search needs
+u64-of-u32-requires-2 : tie.Need-u64-of-u32-requires-2
+u64-of-u32-requires-2 c κs = search needs
+
+put-four-requires : tie.Need-put-four-requires
+put-four-requires c κs = search needs
 
 shown-requires : tie.Need-shown-requires
 shown-requires c κs = search needs
@@ -46,18 +49,22 @@ returns : tie.Need-returns
 returns c =
     let line = c .before .before .before in
     let counts = line .before in
-    let lines = counts .before .before .before .before .before .before .before in
+    let lines = counts .before .before .before .before .before .before .before .before in
     let size = lines .before .before .before in
     let u = size .before .before .before in
     let a = u .args in
     let s =
     shows-laid
-    (done-laid (a .answers) (a .parts) (a .bytes) (a .probes) (a .certificate .now) (size .least .ensures) (lines .put-parts .ensures)
-    (counts .before .before .u64-of-usize .ensures) (counts .before .u64-of-usize2 .ensures) (counts .u64-of-u32 .ensures) (line .put-three .ensures))
+    (done-laid (a .answers) (a .parts) (a .bytes) (a .doublings) (a .halvings) (a .certificate .now) (size .least .ensures) (lines .put-parts .ensures)
+    (counts .before .before .before .u64-of-usize .ensures) (counts .before .before .u64-of-usize2 .ensures) (counts .before .u64-of-u32 .ensures)
+    (counts .u64-of-u322 .ensures) (line .put-four .ensures))
     (c .shown .ensures) in
     let f = fits 256 (a .certificate .now) (λ i. size .before .before .shared-slice-known .given i .fits) in
-    let n = u .fits in
-    (s, accept-whole (a .answers) (a .parts) (a .bytes) (a .probes) (a .certificate .now) f (n .answers .fits) (n .parts .fits) (n .probes .fits) s)
+    let n = u .fits in (
+      s,
+      accept-whole (a .answers) (a .parts) (a .bytes) (a .doublings) (a .halvings) (a .certificate .now) f (n .answers .fits) (n .parts .fits)
+          (n .doublings .fits) (n .halvings .fits) s,
+    )
 
 pub accept-spec : {M : Type 1} → statement M
 accept-spec =
@@ -68,11 +75,12 @@ accept-spec =
     part-put-parts-start
     part-put-parts-end
     put-parts-requires
-    slice-aggregate-put-three
+    slice-aggregate-put-four
     u64-of-usize-requires
     u64-of-usize-requires-2
     u64-of-u32-requires
-    put-three-requires
+    u64-of-u32-requires-2
+    put-four-requires
     shown-requires
     same-length
     returns)

@@ -28,7 +28,7 @@ same-length-2 c = search needs
 returns-2 : tie.Need-returns-2
 returns-2 c =
     let g = c .before .before .before .before .before .outcome2 .given in
-    refused-shows (c .before .before .before .before .before .before .before .before .before .args .outcome) _ _ _ _ _ (c .before .before .before .before .before .before .before .before .before .args .certificate .now) (g .1) (c .before .before .refuse .ensures)
+    refused-shows (c .before .before .before .before .before .before .before .before .before .args .outcome) _ _ _ _ _ _ (c .before .before .before .before .before .before .before .before .before .args .certificate .now) (g .1) (c .before .before .refuse .ensures)
 
 pub render-spec : {M : Type 1} → statement M
 render-spec =

@@ -1,39 +1,58 @@
 -- `outcome_of` returns the counts of an ended walk. Assumes nothing.
 use Prim.Native.Nat.{ℕ, zero, suc, _-_}
 use mathlib.Core.Logic.{_≢_}
-use mathlib.Core.Path.{_≡_, refl}
+use mathlib.Core.Path.{_≡_, refl, ap, _∙_}
 use native.Mathlib.Omega.{arith}
 use Rattle.model.specs.Refusals as model
 use Rattle.walk_progress.specs.Progress.{Counts, outcomeAt}
+use Rattle.walk_tally.specs.Tally.{halvedIn, undoubled}
 use Rattle.walk_write.specs.Writes.{countsOf}
+use Rattle.walk_write.specs.declared.State.{State}
 use borrow.Author.Needs.{needs}
 use Rattle.query.proofs.outcome_of.Statement.{statement}
 use Rattle.query.proofs.outcome_of.Tie as tie
 
-not-none : (n : ℕ) (c : Counts) → n ≢ 0 → model.refused n (c .parts) (c .answers) (c .bytes) (c .probes) ≡ outcomeAt n c
+not-none : (n : ℕ) (c : Counts) → n ≢ 0 → model.refused n (c .parts) (c .answers) (c .bytes) (c .doublings) (c .halvings) ≡ outcomeAt n c
 unfolding outcomeAt
 not-none zero c h = absurd (h refl)
 not-none (suc n) c h = refl
 
-none-at : (n : ℕ) (c : Counts) → n ≡ 0 → model.accepted (c .answers) (c .parts) (c .bytes) (c .probes) ≡ outcomeAt n c
+none-at : (n : ℕ) (c : Counts) → n ≡ 0 → model.accepted (c .answers) (c .parts) (c .bytes) (c .doublings) (c .halvings) ≡ outcomeAt n c
 unfolding outcomeAt
 none-at zero c h = refl
 none-at (suc n) c h = absurd (omega arith)
 
-sub-probes : tie.Need-sub-probes
-sub-probes c = search needs
+-- the counts returned are those of the state
+counted : (allowance : ℕ) (w : State) (d h : ℕ) → d ≡ allowance - undoubled (w .tally) → h ≡ halvedIn (w .tally)
+    → record { answers = w .answers; parts = w .parts; bytes = w .bytes; doublings = d; halvings = h } ≡ countsOf allowance w
+unfolding countsOf
+counted allowance w d h e f i = record { answers = w .answers; parts = w .parts; bytes = w .bytes; doublings = e i; halvings = f i }
+
+doublings-requires : tie.Need-doublings-requires
+doublings-requires c κs = search needs
+
+halvings-requires : tie.Need-halvings-requires
+halvings-requires c κs = search needs
 
 returns : tie.Need-returns
-unfolding countsOf
 returns c =
-    let a = c .before .before .before .before .args in
-    none-at (a .end .number) (countsOf (a .allowance) (a .end .at)) (c .if1 .taken)
+    let h = c .before .before in
+    let d = h .before in
+    let a = d .before .before .args in
+    let w = a .end .at in
+    none-at (a .end .number)
+    (record { answers = w .answers; parts = w .parts; bytes = w .bytes; doublings = d .doublings .result; halvings = h .halvings .result }) (c .if1 .taken)
+    ∙ ap (outcomeAt (a .end .number)) (counted (a .allowance) w _ _ (d .doublings .ensures) (h .halvings .ensures))
 
 returns-2 : tie.Need-returns-2
-unfolding countsOf
 returns-2 c =
-    let a = c .before .before .before .before .args in
-    not-none (a .end .number) (countsOf (a .allowance) (a .end .at)) (c .if1 .left)
+    let h = c .before .before in
+    let d = h .before in
+    let a = d .before .before .args in
+    let w = a .end .at in
+    not-none (a .end .number)
+    (record { answers = w .answers; parts = w .parts; bytes = w .bytes; doublings = d .doublings .result; halvings = h .halvings .result }) (c .if1 .left)
+    ∙ ap (outcomeAt (a .end .number)) (counted (a .allowance) w _ _ (d .doublings .ensures) (h .halvings .ensures))
 
 pub outcome-of-spec : {M : Type 1} → statement M
-outcome-of-spec = tie.close (tie.spec sub-probes returns returns-2)
+outcome-of-spec = tie.close (tie.spec doublings-requires halvings-requires returns returns-2)

@@ -41,7 +41,7 @@ returns c =
     let f = c .before .before .before .first-checks in
     let n = c .before .number .given in
     demanded (a .numbers .now) (a .ends .now) (a .threshold) (a .allowance) (a .answers .now) (a .certificate .now) (a .answers .now) (a .certificate .now)
-    (refused (n .0 .0) (n .0 .1 .0) 0 0 0) (fits-bins (c .before .before .before .before .before .before .before))
+    (refused (n .0 .0) (n .0 .1 .0) 0 0 0 0) (fits-bins (c .before .before .before .before .before .before .before))
     (refused-first (a .numbers .now) (a .ends .now) (a .threshold) (a .allowance) (a .answers .now) (a .certificate .now) (n .0 .0) (n .0 .1 .0) (sym (f .ensures) ∙ ap checkOf (n .1)))
 
 same-length : tie.Need-same-length

@@ -1,6 +1,6 @@
 -- `question` walks over the runs that its mask chooses and tells where it ended. Assumes nothing.
 use Prim.Native.Nat.{_+_}
-use mathlib.Core.Path.{_≡_, ap, _∙_}
+use mathlib.Core.Path.{ap, _∙_}
 use native.Mathlib.Omega.{arith}
 use Rattle.model.specs.Refusals.{chosenChecks}
 use Rattle.query_each.specs.Questions.{Fitted}
@@ -27,13 +27,14 @@ question-walk-requires c κs =
       checked = ap (chosenChecks (a .numbers .now) (a .ends .now) (a .chosen)) (c .before .before .usize-of-u32 .ensures) ∙ s .pre .1;
       answers-fit = s .pre .0 .answered;
       bytes-fit = s .pre .0 .written;
+      allowed = s .pre .0 .allowed;
     }
 
 -- what is then written fits the buffers
 fits : (c : tie.After-question-walk)
     → (let a = begun c .args in let e = c .question-walk .result in
     Fitted (c .question-walk .last .1 .1 .1 .1 .0) (c .question-walk .last .1 .1 .1 .1 .1 .0)
-    (record { answers = e .at .answers; parts = a .totals .parts + e .at .parts; bytes = e .at .bytes; left = e .at .left }))
+    (record { answers = e .at .answers; parts = a .totals .parts + e .at .parts; bytes = e .at .bytes; tally = e .at .tally }))
 fits u =
     let s = begun u in
     let a = s .args in

@@ -1,20 +1,31 @@
 -- `answer_all` asks all questions and returns how the call ended. Assumes nothing.
+use native.Mathlib.Omega.{arith}
 use Rattle.query_many.specs.Outcomes.{manyOutcomeIs}
 use Rattle.query_many.proofs.Calls.{fitted-first, rows-first, ends-so}
 use borrow.Author.Needs.{needs}
 use Rattle.query_many.proofs.answer_all.Statement.{statement}
 use Rattle.query_many.proofs.answer_all.Tie as tie
 
+-- where the function starts, from the questions' call
+abbrev start-of : tie.After-whole → tie.Start
+start-of c = c .before .before .before .before .before .before .before .before .before .before .before
+
+whole-requires : tie.Need-whole-requires
+whole-requires c κs = search needs
+
 each-question-requires : tie.Need-each-question-requires
 each-question-requires c κs =
-    let s = c .before .before .before .before .before .before .before .before .before .before in
+    let s = start-of c in
     let a = s .args in (
-      fitted-first (a .allowance) (a .answers .now) (a .certificate .now),
+      fitted-first (c .whole .result) (a .answers .now) (a .certificate .now) (c .whole .ensures .1),
       rows-first (a .numbers .now) (a .ends .now) (a .masks .now) (a .thresholds .now) (a .results .now) (s .pre),
     )
 
 outcome-of-requires : tie.Need-outcome-of-requires
-outcome-of-requires c κs = search needs
+outcome-of-requires c κs =
+    let u = c .before .before .before .before .before .before in
+    let e = u .before .whole .ensures in
+    omega (arith, u .each-question .ensures .left, e .0, e .1)
 
 same-length : tie.Need-same-length
 same-length c = search needs
@@ -27,16 +38,20 @@ same-length-3 c = search needs
 
 returns : tie.Need-returns
 returns c =
-    let s = c .before .before .before .before .before .before .before .before .before .before .before .before .before .before .before .before .before .before in
+    let q = c .before .before .before .before .before .before .before in
+    let t = q .before in
+    let s = start-of t in
     let a = s .args in
-    let u = c .before .before .before .before .before .before .before .each-question in
-    ends-so (a .numbers .now) (a .ends .now) (a .masks .now) (a .thresholds .now) (a .allowance) (a .answers .now) (a .certificate .now) (a .results .now)
-    (u .last .1 .1 .1 .1 .0) (u .last .1 .1 .1 .1 .1 .0) (u .last .1 .1 .1 .1 .1 .1 .0) (u .result) (manyOutcomeIs (c .outcome-of .result)) (s .pre) (u .ensures) (c .outcome-of .ensures)
+    let u = q .each-question in
+    ends-so (a .numbers .now) (a .ends .now) (a .masks .now) (a .thresholds .now) (a .allowance) (t .whole .result) (a .answers .now) (a .certificate .now) (a .results .now)
+    (u .last .1 .1 .1 .1 .0) (u .last .1 .1 .1 .1 .1 .0) (u .last .1 .1 .1 .1 .1 .1 .0) (u .result) (manyOutcomeIs (c .outcome-of .result)) (s .pre) (t .whole .ensures)
+    (u .ensures) (c .outcome-of .ensures)
 
 pub answer-all-spec : {M : Type 1} → statement M
 answer-all-spec =
     tie.close
     (tie.spec
+    whole-requires
     each-question-requires
     outcome-of-requires
     same-length

@@ -37,7 +37,7 @@ returns c =
     let f = c .before .before .before .many-checks in
     let n = c .before .number .given in
     demanded (a .numbers .now) (a .ends .now) (a .masks .now) (a .thresholds .now) (a .allowance) (a .answers .now) (a .certificate .now) (a .results .now)
-    (a .answers .now) (a .certificate .now) (a .results .now) (refused-in (n .0 .1 .1 .0) (n .0 .0) (n .0 .1 .0) 0 0 0 0) (fits-bins (c .before .before .before .before .before .before .before .before .before .before .before))
+    (a .answers .now) (a .certificate .now) (a .results .now) (refused-in (n .0 .1 .1 .0) (n .0 .0) (n .0 .1 .0) 0 0 0 0 0) (fits-bins (c .before .before .before .before .before .before .before .before .before .before .before))
     (refused-first (a .numbers .now) (a .ends .now) (a .masks .now) (a .thresholds .now) (a .allowance) (a .answers .now) (a .certificate .now) (a .results .now)
     (n .0 .1 .1 .0) (n .0 .0) (n .0 .1 .0) (sym (f .ensures) ∙ ap manyCheckOf (n .1)))
 

@@ -22,11 +22,14 @@ u64-of-usize-requires-3 c κs = search needs
 u64-of-u32-requires : tie.Need-u64-of-u32-requires
 u64-of-u32-requires c κs = search needs
 
+u64-of-u32-requires-2 : tie.Need-u64-of-u32-requires-2
+u64-of-u32-requires-2 c κs = search needs
+
 enum-known-outcome-2 : tie.Need-enum-known-outcome-2
 enum-known-outcome-2 c = search needs
 
-cast-t18 : tie.Need-cast-t18
-cast-t18 c = search needs
+cast-t21 : tie.Need-cast-t21
+cast-t21 c = search needs
 
 u64-of-usize-requires-4 : tie.Need-u64-of-usize-requires-4
 u64-of-usize-requires-4 c κs = search needs
@@ -43,29 +46,41 @@ u64-of-usize-requires-7 c κs = search needs
 u64-of-usize-requires-8 : tie.Need-u64-of-usize-requires-8
 u64-of-usize-requires-8 c κs = search needs
 
-u64-of-u32-requires-2 : tie.Need-u64-of-u32-requires-2
-u64-of-u32-requires-2 c κs = search needs
+u64-of-u32-requires-3 : tie.Need-u64-of-u32-requires-3
+u64-of-u32-requires-3 c κs = search needs
+
+u64-of-u32-requires-4 : tie.Need-u64-of-u32-requires-4
+u64-of-u32-requires-4 c κs = search needs
 
 returns : tie.Need-returns
 unfolding manyRow
 returns c =
+    let g = c .before .before .before .before .before .before .before .outcome .given in
     (λ i.
-    0 ∷ 0 ∷ 0 ∷ c .before .before .before .before .u64-of-usize .ensures i ∷ c .before .before .before .u64-of-usize2 .ensures i ∷ c .before .before .u64-of-usize3 .ensures i
-    ∷ c .before .u64-of-u32 .ensures i ∷ [])
-    ∙ sym (ap (λ o. manyRow (manyOutcomeIs o)) (c .before .before .before .before .before .before .outcome .given .1))
+    0
+    ∷ 0
+    ∷ 0
+    ∷ c .before .before .before .before .before .u64-of-usize .ensures i
+    ∷ c .before .before .before .before .u64-of-usize2 .ensures i
+    ∷ c .before .before .before .u64-of-usize3 .ensures i
+    ∷ c .before .before .u64-of-u32 .ensures i
+    ∷ c .before .u64-of-u322 .ensures i
+    ∷ [])
+    ∙ sym (ap (λ o. manyRow (manyOutcomeIs o)) (g .1))
 
 returns-2 : tie.Need-returns-2
 unfolding manyRow
 returns-2 c =
-    let g = c .before .before .before .before .before .before .before .before .outcome2 .given in
+    let g = c .before .before .before .before .before .before .before .before .before .outcome2 .given in
     (λ i.
     g .0 .0
-    ∷ c .before .before .before .before .before .before .u64-of-usize4 .ensures i
-    ∷ c .before .before .before .before .before .u64-of-usize5 .ensures i
-    ∷ c .before .before .before .before .u64-of-usize6 .ensures i
-    ∷ c .before .before .before .u64-of-usize7 .ensures i
-    ∷ c .before .before .u64-of-usize8 .ensures i
-    ∷ c .before .u64-of-u322 .ensures i
+    ∷ c .before .before .before .before .before .before .before .u64-of-usize4 .ensures i
+    ∷ c .before .before .before .before .before .before .u64-of-usize5 .ensures i
+    ∷ c .before .before .before .before .before .u64-of-usize6 .ensures i
+    ∷ c .before .before .before .before .u64-of-usize7 .ensures i
+    ∷ c .before .before .before .u64-of-usize8 .ensures i
+    ∷ c .before .before .u64-of-u323 .ensures i
+    ∷ c .before .u64-of-u324 .ensures i
     ∷ [])
     ∙ sym (ap (λ o. manyRow (manyOutcomeIs o)) (g .1))
 
@@ -78,13 +93,15 @@ put-many-spec =
     u64-of-usize-requires-2
     u64-of-usize-requires-3
     u64-of-u32-requires
+    u64-of-u32-requires-2
     enum-known-outcome-2
-    cast-t18
+    cast-t21
     u64-of-usize-requires-4
     u64-of-usize-requires-5
     u64-of-usize-requires-6
     u64-of-usize-requires-7
     u64-of-usize-requires-8
-    u64-of-u32-requires-2
+    u64-of-u32-requires-3
+    u64-of-u32-requires-4
     returns
     returns-2)

@@ -22,11 +22,14 @@ u64-of-usize-requires-3 c κs = search needs
 u64-of-u32-requires : tie.Need-u64-of-u32-requires
 u64-of-u32-requires c κs = search needs
 
+u64-of-u32-requires-2 : tie.Need-u64-of-u32-requires-2
+u64-of-u32-requires-2 c κs = search needs
+
 enum-known-outcome-2 : tie.Need-enum-known-outcome-2
 enum-known-outcome-2 c = search needs
 
-cast-t16 : tie.Need-cast-t16
-cast-t16 c = search needs
+cast-t19 : tie.Need-cast-t19
+cast-t19 c = search needs
 
 u64-of-usize-requires-4 : tie.Need-u64-of-usize-requires-4
 u64-of-usize-requires-4 c κs = search needs
@@ -40,26 +43,39 @@ written-requires c κs = search needs
 u64-of-usize-requires-6 : tie.Need-u64-of-usize-requires-6
 u64-of-usize-requires-6 c κs = search needs
 
-u64-of-u32-requires-2 : tie.Need-u64-of-u32-requires-2
-u64-of-u32-requires-2 c κs = search needs
+u64-of-u32-requires-3 : tie.Need-u64-of-u32-requires-3
+u64-of-u32-requires-3 c κs = search needs
+
+u64-of-u32-requires-4 : tie.Need-u64-of-u32-requires-4
+u64-of-u32-requires-4 c κs = search needs
 
 returns : tie.Need-returns
 unfolding outcomeRow
 returns c =
-    (λ i. 0 ∷ 0 ∷ c .before .before .before .before .u64-of-usize .ensures i ∷ c .before .before .before .u64-of-usize2 .ensures i ∷ c .before .before .u64-of-usize3 .ensures i ∷ c .before .u64-of-u32 .ensures i ∷ [])
-    ∙ sym (ap (λ o. outcomeRow (outcomeIs o)) (c .before .before .before .before .before .before .outcome .given .1))
+    let g = c .before .before .before .before .before .before .before .outcome .given in
+    (λ i.
+    0
+    ∷ 0
+    ∷ c .before .before .before .before .before .u64-of-usize .ensures i
+    ∷ c .before .before .before .before .u64-of-usize2 .ensures i
+    ∷ c .before .before .before .u64-of-usize3 .ensures i
+    ∷ c .before .before .u64-of-u32 .ensures i
+    ∷ c .before .u64-of-u322 .ensures i
+    ∷ [])
+    ∙ sym (ap (λ o. outcomeRow (outcomeIs o)) (g .1))
 
 returns-2 : tie.Need-returns-2
 unfolding outcomeRow
 returns-2 c =
-    let g = c .before .before .before .before .before .before .before .outcome2 .given in
+    let g = c .before .before .before .before .before .before .before .before .outcome2 .given in
     (λ i.
     g .0 .0
-    ∷ c .before .before .before .before .before .u64-of-usize4 .ensures i
-    ∷ c .before .before .before .before .u64-of-usize5 .ensures i
-    ∷ c .before .before .before .written .ensures i
-    ∷ c .before .before .u64-of-usize6 .ensures i
-    ∷ c .before .u64-of-u322 .ensures i
+    ∷ c .before .before .before .before .before .before .u64-of-usize4 .ensures i
+    ∷ c .before .before .before .before .before .u64-of-usize5 .ensures i
+    ∷ c .before .before .before .before .written .ensures i
+    ∷ c .before .before .before .u64-of-usize6 .ensures i
+    ∷ c .before .before .u64-of-u323 .ensures i
+    ∷ c .before .u64-of-u324 .ensures i
     ∷ [])
     ∙ sym (ap (λ o. outcomeRow (outcomeIs o)) (g .1))
 
@@ -72,12 +88,14 @@ put-outcome-spec =
     u64-of-usize-requires-2
     u64-of-usize-requires-3
     u64-of-u32-requires
+    u64-of-u32-requires-2
     enum-known-outcome-2
-    cast-t16
+    cast-t19
     u64-of-usize-requires-4
     u64-of-usize-requires-5
     written-requires
     u64-of-usize-requires-6
-    u64-of-u32-requires-2
+    u64-of-u32-requires-3
+    u64-of-u32-requires-4
     returns
     returns-2)

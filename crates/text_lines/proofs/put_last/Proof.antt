@@ -1,6 +1,6 @@
 -- `put_last` lays two numbers and the line's end. Assumes nothing.
 use borrow.Author.Needs.{needs}
-use Rattle.text_lines.proofs.Lines.{last-laid}
+use Rattle.text_lines.proofs.Lines.{end-laid, next-laid}
 use Rattle.text_lines.proofs.put_last.Statement.{statement}
 use Rattle.text_lines.proofs.put_last.Tie as tie
 
@@ -18,8 +18,8 @@ same-length c = search needs
 
 returns : tie.Need-returns
 returns c =
-    last-laid _ _ (c .before .before .before .before .before .before .before .before .before .before .put-after .ensures)
-    (c .before .before .before .before .before .before .put-after2 .ensures) (c .before .before .put .ensures)
+    next-laid _ _ (c .before .before .before .before .before .before .before .before .before .before .put-after .ensures)
+    (next-laid _ _ (c .before .before .before .before .before .before .put-after2 .ensures) (end-laid (c .before .before .put .ensures)))
 
 pub put-last-spec : {M : Type 1} → statement M
 put-last-spec =

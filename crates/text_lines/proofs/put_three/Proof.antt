@@ -1,6 +1,6 @@
 -- `put_three` lays the word, the first number and then the rest of the line. Assumes nothing.
 use borrow.Author.Needs.{needs}
-use Rattle.text_lines.proofs.Lines.{three-laid}
+use Rattle.text_lines.proofs.Lines.{next-laid, line-laid}
 use Rattle.text_lines.proofs.put_three.Statement.{statement}
 use Rattle.text_lines.proofs.put_three.Tie as tie
 
@@ -18,7 +18,8 @@ same-length c = search needs
 
 returns : tie.Need-returns
 returns c =
-    three-laid _ _ _ (c .before .before .before .before .before .before .before .before .before .before .put-word .ensures) (c .before .before .before .before .before .before .put-after .ensures) (c .before .before .put-last .ensures)
+    line-laid _ (c .before .before .before .before .before .before .before .before .before .before .put-word .ensures)
+    (next-laid _ _ (c .before .before .before .before .before .before .put-after .ensures) (c .before .before .put-last .ensures))
 
 pub put-three-spec : {M : Type 1} → statement M
 put-three-spec =

@@ -1,7 +1,7 @@
 -- `advance` writes the gap before v, searches the runs below v, and settles v. Assumes nothing.
-use Prim.Native.Nat.{_+_, _-_, _*_}
+use Prim.Native.Nat.{_+_, _-_, _*_, _<_}
 use lib.ListN.{drop}
-use mathlib.Core.Path.{_≡_, ap, _∙_, subst}
+use mathlib.Core.Path.{_≡_, sym, ap, _∙_, subst}
 use native.Mathlib.Omega.{arith}
 use Rattle.walk_keys.specs.Row.{belowCount}
 use Rattle.walk_write.specs.Writes.{Writes, gapEvents}
@@ -12,9 +12,23 @@ use Rattle.walk_state.specs.Moves.{SearchReady}
 use Rattle.walk_searches.specs.Searches.{SearchedRuns}
 use Rattle.walk_state.specs.State.{runsAt}
 use Rattle.walk_searches.specs.declared.Moved.the-variants as moved
+use Rattle.walk_tally.specs.Tally.{undoubled}
 use borrow.Author.Needs.{needs}
 use Rattle.walk_advance.proofs.advance.Statement.{statement}
 use Rattle.walk_advance.proofs.advance.Tie as tie
+
+-- the places before: the arguments, the front of the row, the gap written, the searches
+abbrev start-of : tie.After-front → tie.Start
+start-of f = f .before .before .before .before .before .before .before .before .before
+
+abbrev gap-of : tie.After-x → tie.After-gap-before
+gap-of x = x .before .before .before .before
+
+abbrev front-of : tie.After-x → tie.After-front
+front-of x = gap-of x .before .before
+
+abbrev written-of : tie.After-search-runs → tie.After-x
+written-of u = u .before .before .before .before .before .before
 
 u64-of-u32-requires : tie.Need-u64-of-u32-requires
 u64-of-u32-requires c κs = search needs
@@ -30,15 +44,15 @@ front-requires c κs =
 
 -- how many heads are below v
 counts : (c : tie.After-front)
-    → (let a = c .before .before .before .before .before .before .before .before .before .args in c .front .result .count ≡ belowCount (a .v * 256) (drop (a .w .start) (a .keys .now)))
+    → (let a = start-of c .args in c .front .result .count ≡ belowCount (a .v * 256) (drop (a .w .start) (a .keys .now)))
 counts c =
-    let a = c .before .before .before .before .before .before .before .before .before .args in
+    let a = start-of c .args in
     c .front .ensures .0 ∙ ap (λ x. belowCount (x * 256) (drop (a .w .start) (a .keys .now))) (c .before .u64-of-u32 .ensures)
 
 sub-gap-before : tie.Need-sub-gap-before
 sub-gap-before c =
     let f = c .before in
-    let s = f .before .before .before .before .before .before .before .before .before in
+    let s = start-of f in
     let a = s .args in
     let l = named-small (a .numbers .now) (a .ends .now) (a .positions .now) (a .keys .now) (a .answers .now) (a .certificate .now) (a .chosen) (a .threshold) (a .v) (a .w)
     (f .front .result .count) (f .front .result .named) (s .pre .0) (s .pre .1) (s .pre .2) (s .pre .3) (counts f) (f .front .ensures .1) in
@@ -63,7 +77,7 @@ returns : tie.Need-returns
 returns c =
     let g = c .before .before .before .before in
     let f = g .before .before in
-    let s = f .before .before .before .before .before .before .before .before .before in
+    let s = start-of f in
     let a = s .args in
     gap-stops (a .numbers .now) (a .ends .now) (a .positions .now) (a .keys .now) (a .answers .now) (a .certificate .now) (a .chosen) (a .threshold) (a .v) (a .w)
     (f .front .result .count) (f .front .result .named) (s .pre .0) (s .pre .1) (s .pre .2) (s .pre .3) (counts f) (f .front .ensures .1) (g .gap-before .last .0)
@@ -71,43 +85,88 @@ returns c =
     (c .enum-told .given .1) (g .gap-before .ensures))
 
 ready : (f : tie.After-front)
-    → (let a = f .before .before .before .before .before .before .before .before .before .args in
+    → (let a = start-of f .args in
     SearchReady (a .numbers .now) (a .ends .now) (a .positions .now) (a .keys .now) (a .w .start + f .front .result .count) (f .front .result .named) (a .v))
 ready f =
-    let s = f .before .before .before .before .before .before .before .before .before in
+    let s = start-of f in
     let a = s .args in
     search-ready (a .numbers .now) (a .ends .now) (a .positions .now) (a .keys .now) (a .answers .now) (a .certificate .now) (a .chosen) (a .threshold) (a .v) (a .w)
     (f .front .result .count) (f .front .result .named) (s .pre .0) (s .pre .1) (s .pre .2) (s .pre .3) (counts f) (f .front .ensures .1)
 
 add-search-runs : tie.Need-add-search-runs
 add-search-runs c =
-    let f = c .before .before .before .before .before .before .before .before .before .before .before in
+    let f = front-of (c .before .before .before .before .before) in
     let r = ready f .lacks .starts in
     let k = ready f .lacks .size in
     let l = ready f .few in
     omega arith
 
-search-runs-requires : tie.Need-search-runs-requires
-search-runs-requires c κs = ready (c .before .before .before .before .before .before .before .before .before .before .before)
-
 -- the gap is written
 gap-on : (c : tie.After-x)
-    → (let g = c .before .before .before .before in
-    let f = g .before .before in
-    let a = f .before .before .before .before .before .before .before .before .before .args in
+    → (let g = gap-of c in
+    let f = front-of c in
+    let a = start-of f .args in
     Writes (gapEvents (a .w .floor) (a .v) (a .chosen - f .front .result .named)) (a .w) (a .certificate .now) (g .gap-before .last .0) (On (c .x .given .0 .0)))
 gap-on c =
-    let g = c .before .before .before .before in
-    let f = g .before .before in
-    let a = f .before .before .before .before .before .before .before .before .before .args in
+    let g = gap-of c in
+    let f = front-of c in
+    let a = start-of f .args in
     subst (λ y. Writes (gapEvents (a .w .floor) (a .v) (a .chosen - f .front .result .named)) (a .w) (a .certificate .now) (g .gap-before .last .0) y)
     (c .x .given .1) (g .gap-before .ensures)
+
+search-runs-requires : tie.Need-search-runs-requires
+search-runs-requires c κs =
+    let x = c .before .before .before .before .before in
+    let f = front-of x in
+    (ready f, subst (λ y. undoubled y < 4294967296) (sym (gap-on x .0 .tally)) (start-of f .pre .0 .allowed))
+
+enum-known-tally : tie.Need-enum-known-tally
+enum-known-tally c = search needs
+
+-- the probes ran out
+spent-on : (c : tie.After-tally)
+    → (let u = c .before .before .before .before .before .before in
+    let x = written-of u in
+    let a = start-of (front-of x) .args in
+    SearchedRuns (a .numbers .now) (a .ends .now) (runsAt 0 (a .numbers .now) (a .positions .now) (a .ends .now)) (a .v) (x .x .given .0 .0 .tally)
+    (u .search-runs .last .1 .1 .0) (u .search-runs .last .1 .1 .1 .0) (moved.Spent (c .tally .given .0 .0)))
+spent-on c =
+    let u = c .before .before .before .before .before .before in
+    let x = written-of u in
+    let a = start-of (front-of x) .args in
+    subst (λ y. SearchedRuns (a .numbers .now) (a .ends .now) (runsAt 0 (a .numbers .now) (a .positions .now) (a .ends .now)) (a .v) (x .x .given .0 .0 .tally)
+    (u .search-runs .last .1 .1 .0) (u .search-runs .last .1 .1 .1 .0) y) (c .tally .given .1) (u .search-runs .ensures)
 
 enum-known-start : tie.Need-enum-known-start
 enum-known-start c = search needs
 
-enum-told-2 : tie.Need-enum-told-2
-enum-told-2 c = search needs
+-- the searches are made
+searched-on : (c : tie.After-start)
+    → (let u = c .before .before .before .before .before .before in
+    let x = written-of u in
+    let a = start-of (front-of x) .args in
+    SearchedRuns (a .numbers .now) (a .ends .now) (runsAt 0 (a .numbers .now) (a .positions .now) (a .ends .now)) (a .v) (x .x .given .0 .0 .tally)
+    (u .search-runs .last .1 .1 .0) (u .search-runs .last .1 .1 .1 .0) (moved.On (c .start .given .0 .0) (c .start .given .0 .1 .0)))
+searched-on c =
+    let u = c .before .before .before .before .before .before in
+    let x = written-of u in
+    let a = start-of (front-of x) .args in
+    subst (λ y. SearchedRuns (a .numbers .now) (a .ends .now) (runsAt 0 (a .numbers .now) (a .positions .now) (a .ends .now)) (a .v) (x .x .given .0 .0 .tally)
+    (u .search-runs .last .1 .1 .0) (u .search-runs .last .1 .1 .1 .0) y) (c .start .given .1) (u .search-runs .ensures)
+
+settle-requires : tie.Need-settle-requires
+settle-requires c κs =
+    let m = c .before .before .before .before .before in
+    let u = m .before .before .before .before .before .before in
+    let x = written-of u in
+    let g = gap-of x in
+    let f = front-of x in
+    let s = start-of f in
+    let a = s .args in
+    stands-there (a .numbers .now) (a .ends .now) (a .positions .now) (a .keys .now) (a .answers .now) (a .certificate .now) (a .chosen) (a .threshold) (a .v) (a .w)
+    (f .front .result .count) (f .front .result .named) (s .pre .0) (s .pre .1) (s .pre .2) (s .pre .3) (counts f) (f .front .ensures .1)
+    (x .x .given .0 .0) (g .gap-before .last .0) (gap-on x) (u .search-runs .last .1 .1 .0) (u .search-runs .last .1 .1 .1 .0)
+    (m .start .given .0 .0) (m .start .given .0 .1 .0) (searched-on m)
 
 same-length-3 : tie.Need-same-length-3
 same-length-3 c = search needs
@@ -120,45 +179,17 @@ same-length-5 c = search needs
 
 returns-2 : tie.Need-returns-2
 returns-2 c =
-    let u = c .before .before .before .before .before .before in
-    let x = u .before .before .before .before .before .before in
-    let g = x .before .before .before .before in
-    let f = g .before .before in
-    let s = f .before .before .before .before .before .before .before .before .before in
+    let p = c .before in
+    let u = p .before .before .before .before .before .before in
+    let x = written-of u in
+    let g = gap-of x in
+    let f = front-of x in
+    let s = start-of f in
     let a = s .args in
     searches-stop (a .numbers .now) (a .ends .now) (a .positions .now) (a .keys .now) (a .answers .now) (a .certificate .now) (a .chosen) (a .threshold) (a .v) (a .w)
     (f .front .result .count) (f .front .result .named) (s .pre .0) (s .pre .1) (s .pre .2) (s .pre .3) (counts f) (f .front .ensures .1)
-    (x .x .given .0 .0) (g .gap-before .last .0) (gap-on x) (u .search-runs .last .1 .1 .0) (u .search-runs .last .1 .1 .1 .0)
-    (subst (λ y. SearchedRuns (a .numbers .now) (a .ends .now) (runsAt 0 (a .numbers .now) (a .positions .now) (a .ends .now)) (a .v) (x .x .given .0 .0 .left)
-    (u .search-runs .last .1 .1 .0) (u .search-runs .last .1 .1 .1 .0) y) (c .enum-told2 .given .1) (u .search-runs .ensures))
-
--- the searches are made
-searched-on : (c : tie.After-start)
-    → (let u = c .before .before .before .before .before .before in
-    let x = u .before .before .before .before .before .before in
-    let a = x .before .before .before .before .before .before .before .before .before .before .before .before .before .before .before .args in
-    SearchedRuns (a .numbers .now) (a .ends .now) (runsAt 0 (a .numbers .now) (a .positions .now) (a .ends .now)) (a .v) (x .x .given .0 .0 .left)
-    (u .search-runs .last .1 .1 .0) (u .search-runs .last .1 .1 .1 .0) (moved.On (c .start .given .0 .0) (c .start .given .0 .1 .0)))
-searched-on c =
-    let u = c .before .before .before .before .before .before in
-    let x = u .before .before .before .before .before .before in
-    let a = x .before .before .before .before .before .before .before .before .before .before .before .before .before .before .before .args in
-    subst (λ y. SearchedRuns (a .numbers .now) (a .ends .now) (runsAt 0 (a .numbers .now) (a .positions .now) (a .ends .now)) (a .v) (x .x .given .0 .0 .left)
-    (u .search-runs .last .1 .1 .0) (u .search-runs .last .1 .1 .1 .0) y) (c .start .given .1) (u .search-runs .ensures)
-
-settle-requires : tie.Need-settle-requires
-settle-requires c κs =
-    let m = c .before .before .before .before .before in
-    let u = m .before .before .before .before .before .before in
-    let x = u .before .before .before .before .before .before in
-    let g = x .before .before .before .before in
-    let f = g .before .before in
-    let s = f .before .before .before .before .before .before .before .before .before in
-    let a = s .args in
-    stands-there (a .numbers .now) (a .ends .now) (a .positions .now) (a .keys .now) (a .answers .now) (a .certificate .now) (a .chosen) (a .threshold) (a .v) (a .w)
-    (f .front .result .count) (f .front .result .named) (s .pre .0) (s .pre .1) (s .pre .2) (s .pre .3) (counts f) (f .front .ensures .1)
-    (x .x .given .0 .0) (g .gap-before .last .0) (gap-on x) (u .search-runs .last .1 .1 .0) (u .search-runs .last .1 .1 .1 .0)
-    (m .start .given .0 .0) (m .start .given .0 .1 .0) (searched-on m)
+    (x .x .given .0 .0) (g .gap-before .last .0) (gap-on x) (u .search-runs .last .1 .1 .0) (u .search-runs .last .1 .1 .1 .0) (p .tally .given .0 .0)
+    (spent-on p)
 
 same-length-6 : tie.Need-same-length-6
 same-length-6 c = search needs
@@ -172,7 +203,8 @@ same-length-8 c = search needs
 same-length-9 : tie.Need-same-length-9
 same-length-9 c =
     let e = c .before .before .before .before .before .before .before .before in
-    let g = e .before .before .before .before .before .before .before .before .before .before .before .before .before .before .before .before .before .before .before .before .before .before in
+    let m = e .before .before .before .before .before .before in
+    let g = gap-of (written-of (m .before .before .before .before .before .before)) in
     e .settle .kept .1 .1 .1 .1 .1 .1 .0 ∙ g .gap-before .kept .0
 
 returns-3 : tie.Need-returns-3
@@ -180,10 +212,10 @@ returns-3 c =
     let e = c .before .before .before .before .before .before .before .before in
     let m = e .before .before .before .before .before .before in
     let u = m .before .before .before .before .before .before in
-    let x = u .before .before .before .before .before .before in
-    let g = x .before .before .before .before in
-    let f = g .before .before in
-    let s = f .before .before .before .before .before .before .before .before .before in
+    let x = written-of u in
+    let g = gap-of x in
+    let f = front-of x in
+    let s = start-of f in
     let a = s .args in
     then-settles (a .numbers .now) (a .ends .now) (a .positions .now) (a .keys .now) (a .answers .now) (a .certificate .now) (a .chosen) (a .threshold) (a .v) (a .w)
     (f .front .result .count) (f .front .result .named) (s .pre .0) (s .pre .1) (s .pre .2) (s .pre .3) (counts f) (f .front .ensures .1)
@@ -208,13 +240,13 @@ advance-spec =
     returns
     add-search-runs
     search-runs-requires
+    enum-known-tally
     enum-known-start
-    enum-told-2
+    settle-requires
     same-length-3
     same-length-4
     same-length-5
     returns-2
-    settle-requires
     same-length-6
     same-length-7
     same-length-8

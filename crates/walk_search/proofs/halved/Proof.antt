@@ -1,41 +1,58 @@
 -- `halved` is the defined halving, within the probes left. The invariant: the whole halving equals the one between these places with the probes made so
--- far. The measure is the width. Assumes nothing.
-use Prim.Native.Nat.{ℕ, _-_, _≤_}
+-- far, which are off the one half of the tally and on the other. The measure is the width. Assumes nothing.
+use Prim.Native.Nat.{ℕ, _+_, _-_, _≤_}
 use lib.ListN.{length}
 use mathlib.Core.List.{List}
 use mathlib.Core.Path.{_≡_, sym, ap, _∙_}
 use native.Mathlib.Omega.{arith}
-use Rattle.model.specs.Walk.{halving}
-use Rattle.walk_search.specs.Limited.{placeWithin}
-use Rattle.walk_search.proofs.Laws.{moreH, no-more-h, halve-spent, halve-next-up, halve-next-down, halve-done}
+use Rattle.model.specs.Walk.{Halving, halving}
+use Rattle.walk_tally.specs.Tally.{leftIn, halvedIn}
+use Rattle.walk_search.proofs.Laws.{moreH, no-more-h, halve-due, halve-next-up, halve-next-down, halve-done}
 use borrow.Author.Needs.{needs}
 use Rattle.walk_search.proofs.halved.Statement.{statement}
 use Rattle.walk_search.proofs.halved.Tie as tie
 
-record Here (s : List ℕ) (v from to left lo hi probes : ℕ) : Type 0 where
+record Here (s : List ℕ) (v from to before lo hi tally : ℕ) : Type 0 where
   order : lo ≤ hi
   inside : hi ≤ length s
-  few : probes ≤ left
-  same : halving (length s) v s from to ≡ moreH probes (halving (length s) v s lo hi)
+  made : ℕ
+  left : leftIn tally + made ≡ leftIn before
+  halved : halvedIn tally ≡ halvedIn before + made
+  same : halving (length s) v s from to ≡ moreH made (halving (length s) v s lo hi)
+
+-- a probe more
+probed : {s : List ℕ} {v from to before lo hi tally : ℕ} (tally′ : ℕ) (h : Here s v from to before lo hi tally)
+    → (leftIn tally′ + 1 ≡ leftIn tally) × (halvedIn tally′ ≡ halvedIn tally + 1)
+    → (leftIn tally′ + (h .made + 1) ≡ leftIn before) × (halvedIn tally′ ≡ halvedIn before + (h .made + 1))
+probed tally′ h e = let l = h .left in let k = h .halved in (omega (arith, e .0), omega (arith, e .1))
 
 abbrev Inv-loop : tie.InvT-loop
-Inv-loop s v from to left lo₀ hi₀ probes₀ lo hi probes = Here s v from to left lo hi probes
+Inv-loop s v from to before lo₀ hi₀ tally₀ lo hi tally = Here s v from to before lo hi tally
 
 abbrev μ-loop : tie.MeasureT-loop
-μ-loop s v from to left lo₀ hi₀ probes₀ lo hi probes = hi - lo
+μ-loop s v from to before lo₀ hi₀ tally₀ lo hi tally = hi - lo
 
 loop-holds : tie.Need-loop-holds Inv-loop μ-loop
-loop-holds c = record { order = omega arith; inside = omega arith; few = omega arith; same = no-more-h _ }
+loop-holds c =
+    let p = c .before .pre in
+    record { order = p .0; inside = p .1; made = 0; left = omega arith; halved = omega arith; same = no-more-h _ }
 
 sub-loop : tie.Need-sub-loop Inv-loop μ-loop
 sub-loop c = search needs
 
+left-requires : tie.Need-left-requires Inv-loop μ-loop
+left-requires c κs = search needs
+
 returns : tie.Need-returns Inv-loop μ-loop
 returns c =
-    let l = c .before .before in
-    let a = l .before .args in
-    sym (ap (placeWithin (a .left)) (l .loop .inv .same)
-    ∙ halve-spent (a .left) (l .loop .probes) (a .v) (a .s .now) (l .loop .lo) (l .loop .hi) (c .if1 .taken) (omega arith) (l .loop .inv .inside))
+    let u = c .before in
+    let l = u .before .before in
+    let a = l .before .before .args in
+    let h = l .loop .inv in
+    let d = halve-due (h .made) (a .v) (a .s .now) (l .loop .lo) (l .loop .hi) (omega arith) (h .inside) in
+    let e = ap (λ (x : Halving). x .probes) (h .same) in
+    let z : leftIn (l .loop .tally) ≡ 0 = sym (u .left .ensures) ∙ c .if1 .taken in
+    (omega (arith, h .left), z, omega (arith, h .left, h .halved))
 
 sub-m : tie.Need-sub-m Inv-loop μ-loop
 sub-m c = search needs
@@ -49,21 +66,32 @@ mul-x c = search needs
 shared-slice-read-x : tie.Need-shared-slice-read-x Inv-loop μ-loop
 shared-slice-read-x c = search needs
 
-add-probes : tie.Need-add-probes Inv-loop μ-loop
-add-probes c = search needs
+halved-requires : tie.Need-halved-requires Inv-loop μ-loop
+halved-requires c κs =
+    let e = c .before in
+    let u = e .before in
+    let l = u .before .before in
+    let h = l .loop .inv in
+    let p = l .before .before .pre in
+    (omega (arith, u .left .ensures, e .if1 .left), omega (arith, h .left, h .halved, p .2))
 
 loop-less : tie.Need-loop-less Inv-loop μ-loop
 loop-less c = search needs
 
 loop-again : tie.Need-loop-again Inv-loop μ-loop
 loop-again c =
-    let l = c .before .before .before .before in
-    let a = l .before .args in
+    let u = c .before in
+    let l = u .before .before .before .before .before in
+    let a = l .before .before .args in
+    let h = l .loop .inv in
+    let p = probed (u .halved .result) h (u .halved .ensures) in
     record {
-      order = omega arith;
-      inside = omega arith;
-      few = omega arith;
-      same = l .loop .inv .same ∙ halve-next-up (l .loop .probes) (a .v) (a .s .now) (l .loop .lo) (l .loop .hi) (omega arith) (l .loop .inv .inside) (c .if2 .taken);
+      order = omega (arith, h .order);
+      inside = h .inside;
+      made = h .made + 1;
+      left = p .0;
+      halved = p .1;
+      same = h .same ∙ halve-next-up (h .made) (a .v) (a .s .now) (l .loop .lo) (l .loop .hi) (omega arith) (h .inside) (c .if2 .taken);
     }
 
 loop-less-2 : tie.Need-loop-less-2 Inv-loop μ-loop
@@ -71,21 +99,28 @@ loop-less-2 c = search needs
 
 loop-again-2 : tie.Need-loop-again-2 Inv-loop μ-loop
 loop-again-2 c =
-    let l = c .before .before .before .before in
-    let a = l .before .args in
+    let u = c .before in
+    let l = u .before .before .before .before .before in
+    let a = l .before .before .args in
+    let h = l .loop .inv in
+    let p = probed (u .halved .result) h (u .halved .ensures) in
     record {
-      order = omega arith;
-      inside = omega arith;
-      few = omega arith;
-      same = l .loop .inv .same ∙ halve-next-down (l .loop .probes) (a .v) (a .s .now) (l .loop .lo) (l .loop .hi) (omega arith) (l .loop .inv .inside) (c .if2 .left);
+      order = omega (arith, h .order);
+      inside = omega (arith, h .inside);
+      made = h .made + 1;
+      left = p .0;
+      halved = p .1;
+      same = h .same ∙ halve-next-down (h .made) (a .v) (a .s .now) (l .loop .lo) (l .loop .hi) (omega arith) (h .inside) (c .if2 .left);
     }
 
 returns-2 : tie.Need-returns-2 Inv-loop μ-loop
 returns-2 c =
     let l = c .before in
-    let a = l .before .args in
-    sym (ap (placeWithin (a .left)) (l .loop .inv .same)
-    ∙ halve-done (a .left) (l .loop .probes) (a .v) (a .s .now) (l .loop .lo) (l .loop .hi) (l .loop .inv .few) (omega arith))
+    let a = l .before .before .args in
+    let h = l .loop .inv in
+    let e = h .same ∙ halve-done (h .made) (a .v) (a .s .now) (l .loop .lo) (l .loop .hi) (omega arith) in
+    let p = ap (λ (x : Halving). x .probes) e in
+    (sym (ap (λ (x : Halving). x .place) e), omega (arith, h .left), omega (arith, h .halved))
 
 pub halved-spec : {M : Type 1} → statement M
 halved-spec =
@@ -95,12 +130,13 @@ halved-spec =
     μ-loop
     loop-holds
     sub-loop
+    left-requires
     returns
     sub-m
     add-m
     mul-x
     shared-slice-read-x
-    add-probes
+    halved-requires
     loop-less
     loop-again
     loop-less-2

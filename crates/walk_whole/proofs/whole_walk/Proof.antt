@@ -13,7 +13,7 @@ begin-requires : tie.Need-begin-requires
 begin-requires c κs =
     let s = c .before .before .before .before .before .before .before .before in
     let a = s .args in
-    begin-ready (a .numbers .now) (a .ends .now) (a .chosen) (a .threshold) (a .positions .now) (a .keys .now) (a .answers .now) (a .certificate .now) (a .answered) (a .written) (s .pre)
+    begin-ready (a .numbers .now) (a .ends .now) (a .chosen) (a .threshold) (a .positions .now) (a .keys .now) (a .answers .now) (a .certificate .now) (a .answered) (a .written) (a .tally) (s .pre)
 
 fits-bins : (c : tie.After-shared-slice-known) → Fits pastBin (c .before .args .numbers .now)
 fits-bins c = let e = past-is in fits pastBin (c .before .args .numbers .now) (λ i. omega (arith, c .shared-slice-known .given i))
@@ -24,8 +24,8 @@ all-rounds-requires c κs =
     let k = g .before .before .before .before .before .before .before .before in
     let s = k .before in
     let a = s .args in
-    stands-first (a .numbers .now) (a .ends .now) (a .chosen) (a .threshold) (a .positions .now) (a .keys .now) (a .answers .now) (a .certificate .now) (a .answered) (a .written) (s .pre)
-    (fits-bins k) (g .begin .last .1 .1 .1 .0) (g .begin .last .1 .1 .1 .1 .0) (g .begin .result) _ (g .begin .ensures)
+    stands-first (a .numbers .now) (a .ends .now) (a .chosen) (a .threshold) (a .positions .now) (a .keys .now) (a .answers .now) (a .certificate .now) (a .answered) (a .written) (a .tally) (s .pre)
+    (fits-bins k) (g .begin .last .1 .1 .1 .0) (g .begin .last .1 .1 .1 .1 .0) (g .begin .result) (g .begin .ensures)
 
 same-length : tie.Need-same-length
 same-length c = search needs
@@ -46,8 +46,8 @@ returns c =
     let k = g .before .before .before .before .before .before .before .before in
     let s = k .before in
     let a = s .args in
-    comes-first (a .numbers .now) (a .ends .now) (a .chosen) (a .threshold) (a .positions .now) (a .keys .now) (a .answers .now) (a .certificate .now) (a .answered) (a .written) (s .pre)
-    (fits-bins k) (g .begin .last .1 .1 .1 .0) (g .begin .last .1 .1 .1 .1 .0) (g .begin .result) (a .left) (g .begin .ensures)
+    comes-first (a .numbers .now) (a .ends .now) (a .chosen) (a .threshold) (a .positions .now) (a .keys .now) (a .answers .now) (a .certificate .now) (a .answered) (a .written) (a .tally) (s .pre)
+    (fits-bins k) (g .begin .last .1 .1 .1 .0) (g .begin .last .1 .1 .1 .1 .0) (g .begin .result) (g .begin .ensures)
     (u .all-rounds .last .1 .1 .1 .1 .1 .1 .0) (u .all-rounds .last .1 .1 .1 .1 .1 .1 .1 .0) (u .all-rounds .result) (u .all-rounds .ensures)
 
 pub whole-walk-spec : {M : Type 1} → statement M
