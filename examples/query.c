@@ -72,7 +72,8 @@ static void print_row(const char *const *names, const uint64_t *row, int count) 
 
 int main(void) {
     static const char *const names[QUORUM_QUERY_ROW] = {
-        "refusal", "place", "answers", "parts", "bytes", "probes"};
+        "refusal", "place",     "answers", "parts",
+        "bytes",   "doublings", "halvings"};
     const uint32_t numbers[9] = {2, 5, 9, 5, 7, 9, 12, 1, 9};
     const uint32_t ends[3] = {3, 7, 9};
     uint32_t answers[QUORUM_ENOUGH_ANSWERS(9)];

@@ -50,7 +50,7 @@ extern "C" {
 
 /** The version. While the major number is 0, a higher minor one may change calls. */
 #define QUORUM_VERSION_MAJOR 0
-#define QUORUM_VERSION_MINOR 2
+#define QUORUM_VERSION_MINOR 3
 #define QUORUM_VERSION_PATCH 0
 
 /** The limits: runs, numbers of all runs together, and the last bin. */
@@ -159,15 +159,17 @@ enum {
     QUORUM_QUERY_ANSWERS = 2,
     QUORUM_QUERY_PARTS = 3,
     QUORUM_QUERY_BYTES = 4,
-    QUORUM_QUERY_PROBES = 5,
-    QUORUM_QUERY_ROW = 6,
+    QUORUM_QUERY_DOUBLINGS = 5,
+    QUORUM_QUERY_HALVINGS = 6,
+    QUORUM_QUERY_ROW = 7,
 
     QUORUM_MANY_QUESTION = 2,
     QUORUM_MANY_ANSWERS = 3,
     QUORUM_MANY_PARTS = 4,
     QUORUM_MANY_BYTES = 5,
-    QUORUM_MANY_PROBES = 6,
-    QUORUM_MANY_ROW = 7,
+    QUORUM_MANY_DOUBLINGS = 6,
+    QUORUM_MANY_HALVINGS = 7,
+    QUORUM_MANY_ROW = 8,
 
     QUORUM_CHECK_ANSWERS = 2,
     QUORUM_CHECK_PARTS = 3,
@@ -186,14 +188,23 @@ enum {
  * to `certificate` the parts that show them to be all.
  *
  * `result` receives refusal and place, then the answers, parts and certificate
- * bytes written and the probes made. After refusals 5 to 7 the whole parts and
- * answers written before stand; 1 to 4 write nothing, and their counts are 0.
- * Later places of both buffers are unchanged, also of an accepted query.
+ * bytes written and the doubling and the halving probes made. After refusals 5 to
+ * 7 the whole parts and answers written before stand; 1 to 4 write nothing, and
+ * their counts are 0. Later places of both buffers are unchanged, also of an
+ * accepted query.
  *
- * The allowance: in a run whose length has b binary digits (an empty run has 0)
- * the query makes at most 2 * d * b probes, d being the number of parts of any
- * true certificate; quorum_probe_bound() sums this up. If nothing is known of d,
- * take QUORUM_ENOUGH_PROBES.
+ * The probes: a search jumps ahead in its run by doubling probes, 1, 2, 4 numbers
+ * and so on, and then narrows down what its last jump passed over by halving
+ * probes. Moving a run on by one or two numbers takes as many doublings at most
+ * and no halving, by r numbers about log2(r) of each. So many doublings to a part
+ * tell of long jumps: runs that lie far apart, or of which most is passed over.
+ * Many halvings tell of jumps that went too far and had to be narrowed down.
+ *
+ * The allowance is held against the sum of both kinds. In a run whose length has
+ * b binary digits (an empty run has 0) that sum is at most 2 * d * b, d being the
+ * number of parts of any true certificate; quorum_probe_bound() adds these up. If
+ * nothing is known of d, take QUORUM_ENOUGH_PROBES. After refusal 7 the sum is the
+ * allowance: the probes of the search that was cut short are among them.
  *
  * Cost: one pass over the numbers for the first checks, then the probes, and the
  * writing of the certificate, which has the fewest parts of all true ones.
@@ -206,7 +217,7 @@ enum {
  *     uint64_t result[QUORUM_QUERY_ROW];
  *     quorum_query(numbers, 9, ends, 3, 2, QUORUM_ENOUGH_PROBES,
  *                  answers, 9, certificate, sizeof certificate, result);
- *     // result: 0, 0, 2, 6, 106, 3; answers: 5, 9
+ *     // result: 0, 0, 2, 6, 106, 3, 0; answers: 5, 9
  */
 void quorum_query(const uint32_t *numbers, size_t numbers_len,
                   const uint32_t *ends, size_t ends_len, uint32_t threshold,
@@ -227,12 +238,13 @@ void quorum_query(const uint32_t *numbers, size_t numbers_len,
  *
  * `result` receives refusal and place, the index of the question that the refusal
  * belongs to (0 if there is none: 1, 3, 4, 14), then the answers, parts and bytes
- * written and the probes made in the whole call. All questions are checked before
- * anything is written, and so are all runs, chosen or not; the counts of these
- * refusals are 0. After 5 to 7 what was written before stands. Later places of the
- * three rows are unchanged, also of an accepted call. No questions are accepted.
+ * written and the doubling and the halving probes made in the whole call. All
+ * questions are checked before anything is written, and so are all runs, chosen or
+ * not; the counts of these refusals are 0. After 5 to 7 what was written before
+ * stands. Later places of the three rows are unchanged, also of an accepted call.
+ * No questions are accepted.
  *
- * The allowance is for all questions together, and is never refilled:
+ * The allowance is for all probes of all questions, and is never refilled:
  * QUORUM_ENOUGH_PROBES for each question is always enough (for more than 97 of
  * them that is more than 32 bits hold), and so is the sum over the questions of
  * quorum_probe_bound_chosen() for the parts of any true certificate.
@@ -251,7 +263,7 @@ void quorum_query(const uint32_t *numbers, size_t numbers_len,
  *     quorum_query_many(numbers, 9, ends, 3, masks, 3, thresholds, 3,
  *                       3 * QUORUM_ENOUGH_PROBES, many_answers, 27,
  *                       certificates, sizeof certificates, results, 6, many);
- *     // many: 0, 0, 0, 8, 19, 329, 5; many_answers: 5, 9, 5, 9, 1, 2, 5, 9
+ *     // many: 0, 0, 0, 8, 19, 329, 5, 0; many_answers: 5, 9, 5, 9, 1, 2, 5, 9
  *     // results: 2, 106, 4, 193, 8, 329
  */
 void quorum_query_many(const uint32_t *numbers, size_t numbers_len,

@@ -110,13 +110,7 @@ impl Rows {
                     &mut same.results,
                 )
             });
-            let expected = ordered::Counts {
-                answers: counts.answers,
-                parts: counts.parts,
-                bytes: counts.bytes,
-                probes: counts.probes as u32,
-            };
-            assert_eq!(result, Some(expected));
+            assert_eq!(result, Some(counts.into()));
             times[2].push(time);
         }
         assert!(one == calls && one == same);
@@ -137,7 +131,8 @@ impl Row {
             sums.answers += counts.answers;
             sums.parts += counts.parts;
             sums.bytes += counts.bytes;
-            sums.probes += counts.probes;
+            sums.doublings += counts.doublings;
+            sums.halvings += counts.halvings;
             reached.copy_from_slice(&[sums.answers as u64, sums.bytes as u64]);
         }
         sums

@@ -108,7 +108,8 @@ impl Buffers {
                 answers: library.answers as u64,
                 parts: library.parts as u64,
                 bytes: library.bytes as u64,
-                probes: library.probes,
+                doublings: library.doublings,
+                halvings: library.halvings,
             };
             assert_eq!(outcome, expected);
             times[1].push(time);
@@ -116,13 +117,7 @@ impl Buffers {
             let (time, same) = timed(numbers, || {
                 ordered::query(numbers, ends, threshold, same_answers, same_bytes, &mut ())
             });
-            let expected = ordered::Counts {
-                answers: library.answers,
-                parts: library.parts,
-                bytes: library.bytes,
-                probes: library.probes as u32,
-            };
-            assert_eq!(same, Some(expected));
+            assert_eq!(same, Some(library.into()));
             times[2].push(time);
 
             let (time, written) = timed(numbers, || {

@@ -9,6 +9,7 @@
 
 pub mod broken;
 pub mod certificates;
+pub mod cuts;
 pub mod lent;
 pub mod many;
 pub mod printed;

@@ -2,7 +2,7 @@
 //! write.
 
 use crate::lent::{noise, Lent};
-use crate::question::{limits_near, Buffers, Limits};
+use crate::question::{counts_of, limits_near, Buffers, Limits};
 use crate::Row;
 use quorum::{finished, Answered, Counts, Refusal, StoppedMany};
 use reference::testing::{lay_out, many_row, Random};
@@ -70,14 +70,9 @@ impl fmt::Debug for Call {
 }
 
 /// A row of results in the terms of `quorum`.
-pub fn result_of(row: [u64; 7]) -> Result<Counts, StoppedMany> {
-    let [number, place, question, answers, parts, bytes, probes] = row;
-    let counts = Counts {
-        answers: answers as usize,
-        parts: parts as usize,
-        bytes: bytes as usize,
-        probes,
-    };
+pub fn result_of(row: [u64; 8]) -> Result<Counts, StoppedMany> {
+    let [number, place, question, counts @ ..] = row;
+    let counts = counts_of(counts);
     match number {
         0 => Ok(counts),
         _ => Err(StoppedMany {
@@ -142,7 +137,7 @@ impl Comparer {
     /// Makes the call on both sides, with `results` result places, and compares
     /// what they return and the whole of the three rows with their margins.
     /// Returns the row of the outcome.
-    pub fn compare(&mut self, seed: u64, call: &Call, limits: Limits, results: usize) -> [u64; 7] {
+    pub fn compare(&mut self, seed: u64, call: &Call, limits: Limits, results: usize) -> [u64; 8] {
         let Call {
             numbers,
             ends,
@@ -248,7 +243,7 @@ pub fn whole(call: &Call) -> Option<Limits> {
         let walk = trace_chosen(numbers, ends, mask, threshold).ok()?;
         let is_answer = |part: &&Part| matches!(part, Part::Answer { .. });
         let answers = walk.parts.iter().filter(is_answer).count();
-        whole.allowance += walk.probes.iter().sum::<u64>() as u32;
+        whole.allowance += walk.all_probes().total() as u32;
         whole.answers += answers;
         whole.bytes += 19 * walk.parts.len() - 4 * answers;
     }

@@ -7,6 +7,7 @@ use std::path::PathBuf;
 /// Runs the program and counts its refusals; 0 stands for none.
 pub struct Comparer {
     program: PathBuf,
+    /// The places of each; where there is none, the halving probes.
     places: BTreeMap<u64, Vec<u64>>,
 }
 
@@ -61,11 +62,15 @@ impl Comparer {
         );
         let text = String::from_utf8(expected).expect("it is ASCII");
         let mut words = text.split_whitespace();
-        let refusal = match words.next() {
-            Some("refuse") => words.map(|word| word.parse().expect("a number")).collect(),
-            _ => vec![0, 0],
+        let number = |word: Option<&str>| -> u64 {
+            let number = word.and_then(|word| word.parse().ok());
+            number.expect("a number")
         };
-        self.places.entry(refusal[0]).or_default().push(refusal[1]);
+        let (refusal, place) = match words.next() {
+            Some("refuse") => (number(words.next()), number(words.next())),
+            _ => (0, number(words.last())),
+        };
+        self.places.entry(refusal).or_default().push(place);
     }
 
     /// Each of these refusals was met so often, and at several places.

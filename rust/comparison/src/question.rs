@@ -53,13 +53,8 @@ pub fn refusal_of(refusal: reference::Refusal) -> Refusal {
 
 /// The reference's outcome in the terms of `quorum`.
 pub fn result_of(outcome: reference::Outcome) -> Result<Counts, Stopped> {
-    let [number, place, answers, parts, bytes, probes] = row_of(outcome);
-    let counts = Counts {
-        answers: answers as usize,
-        parts: parts as usize,
-        bytes: bytes as usize,
-        probes,
-    };
+    let [number, place, counts @ ..] = row_of(outcome);
+    let counts = counts_of(counts);
     match number {
         0 => Ok(counts),
         _ => Err(Stopped {
@@ -69,24 +64,39 @@ pub fn result_of(outcome: reference::Outcome) -> Result<Counts, Stopped> {
     }
 }
 
+/// The counts of a row of results in the terms of `quorum`.
+pub(crate) fn counts_of(counts: [u64; 5]) -> Counts {
+    let [answers, parts, bytes, doublings, halvings] = counts;
+    Counts {
+        answers: answers as usize,
+        parts: parts as usize,
+        bytes: bytes as usize,
+        doublings,
+        halvings,
+    }
+}
+
 /// The reference's outcome as the row of the C interface.
-pub fn row_of(outcome: reference::Outcome) -> [u64; 6] {
+pub fn row_of(outcome: reference::Outcome) -> [u64; 7] {
     match outcome {
         reference::Outcome::Accepted {
             answers,
             parts,
             bytes,
-            probes,
-        } => [0, 0, answers, parts, bytes, probes],
+            doublings,
+            halvings,
+        } => [0, 0, answers, parts, bytes, doublings, halvings],
         reference::Outcome::Refused {
             number,
             place,
             answers,
             bytes,
-            probes,
+            doublings,
+            halvings,
         } => {
             let parts = if number >= 5 { place } else { 0 };
-            [number.into(), place, answers, parts, bytes, probes]
+            let number = number.into();
+            [number, place, answers, parts, bytes, doublings, halvings]
         }
     }
 }
@@ -202,7 +212,7 @@ pub fn whole(question: Question) -> Option<Limits> {
     let is_answer = |part: &&reference::Part| matches!(part, reference::Part::Answer { .. });
     let answers = trace.parts.iter().filter(is_answer).count();
     Some(Limits {
-        allowance: trace.probes.iter().sum::<u64>() as u32,
+        allowance: trace.all_probes().total() as u32,
         answers,
         bytes: 19 * trace.parts.len() - 4 * answers,
     })

@@ -120,7 +120,7 @@ impl Text {
 fn near_own_count(random: &mut Random, threshold: u32, runs: &[Vec<u32>]) -> u32 {
     let (numbers, ends) = lay_out(runs);
     let own = match trace(&numbers, &ends, threshold) {
-        Ok(trace) => trace.probes.iter().sum::<u64>() as u32,
+        Ok(trace) => trace.all_probes().total() as u32,
         Err(_) => 0,
     };
     match random.below(10) {

@@ -7,7 +7,7 @@ use comparison::seeds;
 use comparison::shapes::any_runs;
 use quorum::{probe_bound, probe_bound_chosen};
 use reference::testing::{choose, lay_out, slices, Random};
-use reference::{all_runs, digits, fewest_parts, is_true, trace, trace_chosen, Outcome};
+use reference::{all_runs, digits, fewest_parts, is_true, trace, trace_chosen, Outcome, Probes};
 
 /// Compares one walk with the fewest parts possible, at every threshold.
 fn within_the_bound(seed: u64, runs: &[Vec<u32>]) {
@@ -27,7 +27,7 @@ fn within_the_bound(seed: u64, runs: &[Vec<u32>]) {
         let mut sum = 0;
         for (run, &probes) in runs.iter().zip(&walk.probes) {
             let bound = 2 * fewest as u64 * u64::from(digits(run.len() as u64));
-            assert!(probes <= bound, "{}", context());
+            assert!(probes.total() <= bound, "{}", context());
             sum += bound;
         }
         assert_eq!(probe_bound(&ends, fewest as u32), Ok(sum), "{}", context());
@@ -39,11 +39,21 @@ fn within_the_bound(seed: u64, runs: &[Vec<u32>]) {
             ..whole
         };
         let outcome = comparer.compare(seed, question, bounded);
-        let Outcome::Accepted { parts, probes, .. } = outcome else {
+        let Outcome::Accepted {
+            parts,
+            doublings,
+            halvings,
+            ..
+        } = outcome
+        else {
             panic!("{outcome:?}, {}", context());
         };
         assert_eq!(parts, fewest as u64, "{}", context());
-        assert_eq!(probes, walk.probes.iter().sum::<u64>(), "{}", context());
+        let probes = Probes {
+            doublings,
+            halvings,
+        };
+        assert_eq!(probes, walk.all_probes(), "{}", context());
 
         // Buffers that are too small are refused for what they are.
         for (answers, bytes) in [
@@ -104,7 +114,7 @@ fn chosen_within_the_bound(seed: u64, random: &mut Random, runs: &[Vec<u32>]) {
         for (i, (run, &probes)) in runs.iter().zip(&walk.probes).enumerate() {
             let digits = (mask >> i & 1) * u64::from(digits(run.len() as u64));
             let bound = 2 * u64::from(fewest) * digits;
-            assert!(probes <= bound, "seed {seed}: run {i}, {call:?}");
+            assert!(probes.total() <= bound, "seed {seed}: run {i}, {call:?}");
             sum += bound;
         }
         let bound = probe_bound_chosen(&call.ends, mask, fewest);
@@ -115,7 +125,7 @@ fn chosen_within_the_bound(seed: u64, random: &mut Random, runs: &[Vec<u32>]) {
     let limits = Limits { allowance, ..whole };
     let row = many::Comparer::new().compare(seed, &call, limits, call.results());
     assert_eq!(
-        (row[0], row[6]),
+        (row[0], row[6] + row[7]),
         (0, whole.allowance.into()),
         "seed {seed}: {call:?}"
     );

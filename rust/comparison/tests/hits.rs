@@ -28,7 +28,7 @@ fn stored_runs() {
         }
     }
     comparer.met(&[
-        (0, 5, 1),
+        (0, 5, 3),
         (1, 1, 1),
         (2, 2, 2),
         (4, 2, 2),
@@ -45,7 +45,7 @@ fn instances_of_document_01() {
         comparer.compare(&instance.name, &text.bytes());
     }
     comparer.met(&[
-        (0, 60, 1),
+        (0, 60, 3),
         (1, 1, 1),
         (2, 60, 60),
         (4, 1, 1),
@@ -64,7 +64,7 @@ fn good_questions() {
         text.add_zeros(&mut random);
         comparer.compare_seed(seed, &text.bytes());
     }
-    comparer.met(&[(0, 1_500, 1), (2, 100, 10), (4, 100, 30), (7, 200, 20)]);
+    comparer.met(&[(0, 1_500, 30), (2, 100, 10), (4, 100, 30), (7, 200, 20)]);
 }
 
 /// Good questions with one to three changes.

@@ -50,7 +50,7 @@ fn exactly_used_up() {
         let counts = result_of(outcome).unwrap();
         assert_eq!(counts.answers, limits.answers, "seed {seed}");
         assert_eq!(counts.bytes, limits.bytes, "seed {seed}");
-        assert_eq!(counts.probes, limits.allowance.into(), "seed {seed}");
+        assert_eq!(counts.probes(), limits.allowance.into(), "seed {seed}");
         for (number, limits) in one_less(limits) {
             let outcome = comparer.compare(seed, question, limits);
             let stopped = result_of(outcome).unwrap_err();
@@ -87,11 +87,12 @@ fn three_runs() {
         answers: 2,
         bytes: 106,
     };
-    let counts = |answers, parts, bytes, probes| Counts {
+    let counts = |answers, parts, bytes, doublings| Counts {
         answers,
         parts,
         bytes,
-        probes,
+        doublings,
+        halvings: 0,
     };
     assert_eq!(ask(question, exact), Ok(counts(2, 6, 106, 3)));
     let stopped: Vec<Stopped> = one_less(exact)

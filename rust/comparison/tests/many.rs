@@ -7,14 +7,14 @@ use comparison::question::Limits;
 use comparison::seeds;
 use comparison::shapes::any_runs;
 use reference::encode;
-use reference::testing::{many_instances, ManyInstance, Random, M, THREE_RUNS};
+use reference::testing::{many_instances, ManyInstance, Random, M};
 
 /// Asks the library with the given allowance and rows of the given lengths,
 /// having compared it with the reference.
 fn expect(instance: &ManyInstance, allowance: u32, room: [usize; 3]) {
     const FILLER: u64 = 0xabab_abab_abab_abab;
     let name = instance.name;
-    let call = Call::new(&THREE_RUNS, &instance.masks, &instance.thresholds);
+    let call = Call::new(&instance.runs, &instance.masks, &instance.thresholds);
     let limits = Limits {
         allowance,
         answers: room[0],
@@ -56,9 +56,9 @@ fn every_instance() {
     for instance in many_instances() {
         expect(&instance, instance.allowance, instance.room);
         if instance.row[0] == 0 {
-            let [_, _, _, answers, _, bytes, probes] = instance.row;
+            let [_, _, _, answers, _, bytes, doublings, halvings] = instance.row;
             let room = [answers as usize, bytes as usize, instance.results.len()];
-            expect(&instance, probes as u32, room);
+            expect(&instance, (doublings + halvings) as u32, room);
             expect(&instance, M, [1_024, 65_536, 40]);
         }
     }

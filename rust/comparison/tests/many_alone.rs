@@ -113,7 +113,8 @@ fn compare_alone(seed: u64, runs: &[Vec<u32>], call: &Call, seen: &mut Seen) {
     let row = comparer.compare(seed, call, exact, call.results());
     let counts = result_of(row).unwrap();
     let all = comparer.finished(call.masks.len());
-    let (mut parts, mut probes, mut bounds) = (0, 0, 0);
+    let mut sums = Counts::default();
+    let mut bounds = 0;
     for ((question, &mask), &threshold) in all.iter().zip(&call.masks).zip(&call.thresholds) {
         let chosen = choose(runs, mask);
         let (alone, answers, certificate) = ask(&chosen, threshold, ample);
@@ -122,8 +123,11 @@ fn compare_alone(seed: u64, runs: &[Vec<u32>], call: &Call, seen: &mut Seen) {
         let renumbered = renumber(&decode(&certificate).unwrap(), mask);
         assert_eq!(question.certificate, encode(&renumbered), "{}", context());
         assert!(is_true_chosen(&slices(runs), mask, threshold, &renumbered));
-        parts += alone.parts;
-        probes += alone.probes;
+        sums.answers += alone.answers;
+        sums.parts += alone.parts;
+        sums.bytes += alone.bytes;
+        sums.doublings += alone.doublings;
+        sums.halvings += alone.halvings;
 
         let single = Question {
             numbers: &call.numbers,
@@ -138,11 +142,11 @@ fn compare_alone(seed: u64, runs: &[Vec<u32>], call: &Call, seen: &mut Seen) {
         let bound = probe_bound_chosen(&call.ends, mask, own_parts);
         assert_eq!(bound, probe_bound(&lay_out(&chosen).1, own_parts));
         let bound = bound.unwrap();
-        assert!(alone.probes <= bound, "{}", context());
+        assert!(alone.probes() <= bound, "{}", context());
         bounds += bound;
     }
-    assert_eq!((counts.parts, counts.probes), (parts, probes));
-    assert!(counts.probes <= bounds, "{}", context());
+    assert_eq!(counts, sums, "{}", context());
+    assert!(counts.probes() <= bounds, "{}", context());
     let bounded = Limits {
         allowance: bounds as u32,
         ..exact

@@ -28,7 +28,7 @@ fn every_limit() {
         for allowance in 0..=whole.allowance + 1 {
             let refusal = if allowance < whole.allowance { 7 } else { 0 };
             let row = compare(Limits { allowance, ..whole }, refusal);
-            assert_eq!(row[6], allowance.min(whole.allowance).into());
+            assert_eq!(row[6] + row[7], allowance.min(whole.allowance).into());
         }
         for answers in 0..=whole.answers + 1 {
             let refusal = if answers < whole.answers { 5 } else { 0 };

@@ -82,7 +82,7 @@ fn a_pipe_that_ends() {
                   gap 6 8 1\n\
                   hit 9 3\n\
                   gap 10 4294967295 1\n\
-                  done 2 5 2\n";
+                  done 2 5 2 0\n";
     assert_eq!(front(&printed), front(answer.as_bytes()));
 }
 
@@ -201,7 +201,7 @@ fn interrupted_reads() {
     let ending = UnixStream::pair().unwrap();
     let printed = print_interrupted(&program::hits(), ending, &pieces);
     assert_eq!(front(&printed), front(&reference::hits(&input, false)));
-    assert!(printed.ends_with(b"done 2 6 3\n"));
+    assert!(printed.ends_with(b"done 2 6 3 0\n"));
     let failing = socket_reset_at_the_end();
     let printed = print_interrupted(&program::hits(), failing, &pieces);
     assert_eq!(front(&printed), front(b"refuse 12 5\n"));

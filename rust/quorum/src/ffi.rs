@@ -18,7 +18,7 @@ extern "C" {
         answers_len: usize,
         certificate: *mut u8,
         certificate_len: usize,
-        result: *mut [u64; 6],
+        result: *mut [u64; 7],
     );
     fn quorum_check(
         numbers: *const u32,
@@ -46,7 +46,7 @@ extern "C" {
         certificate_len: usize,
         results: *mut u64,
         results_len: usize,
-        result: *mut [u64; 7],
+        result: *mut [u64; 8],
     );
     fn quorum_check_chosen(
         numbers: *const u32,
@@ -76,12 +76,13 @@ extern "C" {
     );
 }
 
-/// Returns refusal, place, answers, parts, bytes and probes.
+/// Returns refusal, place, answers, parts, bytes, doubling probes and halving
+/// probes.
 ///
 /// ```
 /// let (mut answers, mut certificate) = ([0; 1], [0; 53]);
 /// let row = quorum::ffi::query(&[7, 9, 7], &[2, 3], 2, 0, &mut answers, &mut certificate);
-/// assert_eq!(row, [0, 0, 1, 3, 53, 0]);
+/// assert_eq!(row, [0, 0, 1, 3, 53, 0, 0]);
 /// ```
 pub fn query(
     numbers: &[u32],
@@ -90,8 +91,8 @@ pub fn query(
     allowance: u32,
     answers: &mut [u32],
     certificate: &mut [u8],
-) -> [u64; 6] {
-    let mut result = [u64::MAX; 6];
+) -> [u64; 7] {
+    let mut result = [u64::MAX; 7];
     // SAFETY: each pointer and length are those of one slice, and the slices
     // written to are borrowed by this call alone.
     unsafe {
@@ -137,7 +138,8 @@ pub fn check(numbers: &[u32], ends: &[u32], threshold: u32, certificate: &[u8]) 
     result
 }
 
-/// Returns refusal, place, question, answers, parts, bytes and probes.
+/// Returns refusal, place, question, answers, parts, bytes, doubling probes and
+/// halving probes.
 ///
 /// ```
 /// let (mut answers, mut certificate, mut results) = ([0; 2], [0; 106], [0; 4]);
@@ -151,7 +153,7 @@ pub fn check(numbers: &[u32], ends: &[u32], threshold: u32, certificate: &[u8]) 
 ///     &mut certificate,
 ///     &mut results,
 /// );
-/// assert_eq!(row, [0, 0, 0, 2, 6, 106, 0]);
+/// assert_eq!(row, [0, 0, 0, 2, 6, 106, 0, 0]);
 /// assert_eq!(results, [1, 53, 2, 106]);
 /// ```
 #[allow(clippy::too_many_arguments)]
@@ -164,8 +166,8 @@ pub fn query_many(
     answers: &mut [u32],
     certificate: &mut [u8],
     results: &mut [u64],
-) -> [u64; 7] {
-    let mut result = [u64::MAX; 7];
+) -> [u64; 8] {
+    let mut result = [u64::MAX; 8];
     // SAFETY: as in `query`.
     unsafe {
         quorum_query_many(

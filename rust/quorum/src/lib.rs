@@ -35,9 +35,11 @@
 //! [`query()`] writes it, names all the runs that hold it. Whoever has the runs
 //! can check a certificate, whoever wrote it.
 //!
-//! A *probe* is one comparison with a number in a search. Bounds on probes count
-//! the *binary digits* of a run's length: an empty run has 0 of them, a run of 4
-//! numbers 3.
+//! A *probe* is one comparison with a number in a search. A search jumps ahead in
+//! its run by *doubling probes*, 1, 2, 4 numbers and so on, and then narrows down
+//! what its last jump passed over by *halving probes*; allowances and bounds are
+//! about both together. Bounds on probes count the *binary digits* of a run's
+//! length: an empty run has 0 of them, a run of 4 numbers 3.
 //!
 //! # Calls
 //!
@@ -60,7 +62,8 @@
 //! answers.truncate(counts.answers);
 //! certificate.truncate(counts.bytes);
 //! assert_eq!(answers, [5, 9]);
-//! assert_eq!((counts.parts, counts.bytes, counts.probes), (6, 106, 3));
+//! assert_eq!((counts.parts, counts.bytes), (6, 106));
+//! assert_eq!((counts.doublings, counts.halvings), (3, 0));
 //!
 //! let checked = check(&numbers, &ends, 2, &certificate)?;
 //! assert_eq!((checked.answers, checked.parts), (2, 6));
@@ -115,7 +118,7 @@ struct Readme;
 /// // One run with no numbers: the certificate is one gap.
 /// let counts = quorum::query(&[], &[0], 1, 0, &mut [], &mut [0; 19])?;
 /// assert_eq!((counts.answers, counts.parts), (0, 1));
-/// assert_eq!((counts.bytes, counts.probes), (19, 0));
+/// assert_eq!((counts.bytes, counts.probes()), (19, 0));
 /// # Ok::<(), quorum::Stopped>(())
 /// ```
 #[derive(Clone, Copy, Debug, Default, PartialEq, Eq, Hash)]
@@ -126,8 +129,32 @@ pub struct Counts {
     pub parts: usize,
     /// The bytes of the certificate written.
     pub bytes: usize,
-    /// The probes made.
-    pub probes: u64,
+    /// The doubling probes made. Many of them to a part tell of long jumps: runs
+    /// that lie far apart, or of which most is passed over.
+    pub doublings: u64,
+    /// The halving probes made. Many of them tell of jumps that went too far and
+    /// had to be narrowed down. A run that moves on by a number or two at a time
+    /// takes none.
+    pub halvings: u64,
+}
+
+impl Counts {
+    /// Returns the probes made, of both kinds together. This is what an allowance
+    /// is held against and what bounds on probes speak of.
+    ///
+    /// ```
+    /// // {10, 20, .., 160} and {115}.
+    /// let numbers: Vec<u32> = (1..=16).map(|i| 10 * i).chain([115]).collect();
+    /// let counts = quorum::query(&numbers, &[16, 17], 2, 7, &mut [], &mut [0; 57])?;
+    /// // In the first run places 1, 2, 4 and 8 are probed, then 12, 10 and 11.
+    /// assert_eq!((counts.doublings, counts.halvings), (4, 3));
+    /// assert_eq!(counts.probes(), 7);
+    /// # Ok::<(), quorum::Stopped>(())
+    /// ```
+    #[must_use]
+    pub const fn probes(&self) -> u64 {
+        self.doublings + self.halvings
+    }
 }
 
 /// What a true certificate has: the result of [`check()`], with an example, and
@@ -164,7 +191,8 @@ pub struct Checked {
 ///
 /// # Allowance
 ///
-/// If nothing is known of the runs, and all their answers are wanted, take
+/// It is held against the probes of both kinds together, [`Counts::probes`]. If
+/// nothing is known of the runs, and all their answers are wanted, take
 /// [`ENOUGH_PROBES`]: it is always enough, as is any larger allowance, such as
 /// `u32::MAX`. Refusal 7 then never occurs. For n numbers in all, 2 × n × b is
 /// enough too, b being the binary digits of n, and so is the sum of 2 × n × b
@@ -180,7 +208,8 @@ pub struct Checked {
 ///
 /// One pass over `numbers` for the first checks. Then, in a run whose length
 /// has b binary digits, at most 2 × d × b probes, d being the parts of any true
-/// certificate.
+/// certificate. Moving a run on by one or two numbers takes as many doubling
+/// probes at most, by r numbers about log2(r) of each kind.
 ///
 /// # Example
 ///
@@ -208,20 +237,26 @@ pub fn query(
     answers: &mut [u32],
     certificate: &mut [u8],
 ) -> Result<Counts, Stopped> {
-    let [number, place, answers, parts, bytes, probes] =
+    let [number, place, written @ ..] =
         ffi::query(numbers, ends, threshold, allowance, answers, certificate);
-    let counts = Counts {
-        answers: answers as usize,
-        parts: parts as usize,
-        bytes: bytes as usize,
-        probes,
-    };
+    let counts = counted(written);
     match number {
         0 => Ok(counts),
         _ => Err(Stopped {
             refusal: Refusal { number, place },
             counts,
         }),
+    }
+}
+
+/// The counts at the end of the row that the library writes for a query.
+fn counted([answers, parts, bytes, doublings, halvings]: [u64; 5]) -> Counts {
+    Counts {
+        answers: answers as usize,
+        parts: parts as usize,
+        bytes: bytes as usize,
+        doublings,
+        halvings,
     }
 }
 

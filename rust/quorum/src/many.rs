@@ -1,7 +1,7 @@
 //! Many questions about the same runs in one call.
 
 use crate::refusal::tell_written;
-use crate::{ffi, Counts, Refusal};
+use crate::{counted, ffi, Counts, Refusal};
 use std::error::Error;
 use std::fmt;
 
@@ -78,7 +78,7 @@ use std::fmt;
 ///     &mut results,
 /// )?;
 /// assert_eq!(answers[..counts.answers], [5, 9, 5, 9, 1, 2, 5, 9]);
-/// assert_eq!((counts.parts, counts.bytes, counts.probes), (19, 329, 5));
+/// assert_eq!((counts.parts, counts.bytes, counts.probes()), (19, 329, 5));
 /// assert_eq!(results, [2, 106, 4, 193, 8, 329]);
 ///
 /// // The first question needs 3 probes and the second 2 more.
@@ -112,7 +112,7 @@ pub fn query_many(
     certificate: &mut [u8],
     results: &mut [u64],
 ) -> Result<Counts, StoppedMany> {
-    let [number, place, question, answers, parts, bytes, probes] = ffi::query_many(
+    let [number, place, question, written @ ..] = ffi::query_many(
         numbers,
         ends,
         masks,
@@ -122,12 +122,7 @@ pub fn query_many(
         certificate,
         results,
     );
-    let counts = Counts {
-        answers: answers as usize,
-        parts: parts as usize,
-        bytes: bytes as usize,
-        probes,
-    };
+    let counts = counted(written);
     match number {
         0 => Ok(counts),
         _ => Err(StoppedMany {

@@ -36,7 +36,8 @@ const SPENT: Stopped = Stopped {
         answers: 1,
         parts: 4,
         bytes: 72,
-        probes: 2,
+        doublings: 2,
+        halvings: 0,
     },
 };
 
@@ -52,6 +53,24 @@ fn question_mark() {
         parts: 6,
     };
     assert_eq!((checked, read.len()), (expected, 6));
+}
+
+/// Both kinds of probes together are what the allowance is held against: where
+/// it ends a search in its halving, they are the allowance.
+#[test]
+fn probes_of_both_kinds() {
+    assert_eq!(SPENT.counts.probes(), 2);
+    let numbers: Vec<u32> = (1..=16).map(|i| 10 * i).chain([115]).collect();
+    let ask = |allowance| query(&numbers, &[16, 17], 2, allowance, &mut [], &mut [0; 57]);
+    let stopped = ask(6).unwrap_err();
+    assert_eq!(stopped.refusal.number, Refusal::ALLOWANCE_SPENT);
+    let Counts {
+        doublings,
+        halvings,
+        ..
+    } = stopped.counts;
+    assert_eq!((doublings, halvings, stopped.counts.probes()), (4, 2, 6));
+    assert_eq!(ask(7).unwrap().probes(), 7);
 }
 
 /// A stopped query's text tells the refusal, which is told once in the chain of

@@ -127,7 +127,8 @@ fn places_of_results() {
     assert_eq!(at(&row, "QUERY_ANSWERS"), 2);
     assert_eq!(at(&row, "QUERY_PARTS"), 6);
     assert_eq!(at(&row, "QUERY_BYTES"), 106);
-    assert_eq!(at(&row, "QUERY_PROBES"), 3);
+    assert_eq!(at(&row, "QUERY_DOUBLINGS"), 3);
+    assert_eq!(at(&row, "QUERY_HALVINGS"), 0);
 
     let row = ffi::check(&numbers, &ends, 2, &certificate[..106]);
     assert_eq!(row.len(), length("CHECK_ROW"));
@@ -153,7 +154,8 @@ fn places_of_results() {
     assert_eq!(at(&row, "MANY_ANSWERS"), 8);
     assert_eq!(at(&row, "MANY_PARTS"), 19);
     assert_eq!(at(&row, "MANY_BYTES"), 329);
-    assert_eq!(at(&row, "MANY_PROBES"), 5);
+    assert_eq!(at(&row, "MANY_DOUBLINGS"), 5);
+    assert_eq!(at(&row, "MANY_HALVINGS"), 0);
     let refused = ask_many(4);
     assert_eq!(at(&refused, "REFUSAL"), Refusal::ALLOWANCE_SPENT);
     assert_eq!(at(&refused, "PLACE"), 3);
@@ -163,6 +165,25 @@ fn places_of_results() {
     assert_eq!(row.len(), length("CHECK_ROW"));
     assert_eq!(at(&row, "CHECK_ANSWERS"), 2);
     assert_eq!(at(&row, "CHECK_PARTS"), 5);
+
+    // {10, 20, .., 160} and {115}: a search that halves.
+    let numbers: Vec<u32> = (1..=16).map(|i| 10 * i).chain([115]).collect();
+    let tens = [16, 17];
+    let row = ffi::query(&numbers, &tens, 2, 7, &mut [], &mut certificate);
+    assert_eq!(at(&row, "QUERY_DOUBLINGS"), 4);
+    assert_eq!(at(&row, "QUERY_HALVINGS"), 3);
+    let row = ffi::query_many(
+        &numbers,
+        &tens,
+        &[3, 3],
+        &[2, 2],
+        14,
+        &mut [],
+        &mut certificate,
+        &mut results,
+    );
+    assert_eq!(at(&row, "MANY_DOUBLINGS"), 8);
+    assert_eq!(at(&row, "MANY_HALVINGS"), 6);
 
     let part = ffi::between(&[2, 5, 9], 3, 9);
     let row = [part.start, part.end];

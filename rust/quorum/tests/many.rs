@@ -64,7 +64,8 @@ const SPENT: StoppedMany = StoppedMany {
         answers: 3,
         parts: 9,
         bytes: 159,
-        probes: 4,
+        doublings: 4,
+        halvings: 0,
     },
 };
 

@@ -36,11 +36,12 @@ fn report(question: &Question) -> String {
             answers,
             parts,
             bytes,
-            probes,
+            doublings,
+            halvings,
         } => {
             let written = decode(&certificate[..bytes as usize]).unwrap_or_default();
             let mut text: String = written.iter().map(part_line).collect();
-            text += &format!("done {answers} {parts} {probes}\n");
+            text += &format!("done {answers} {parts} {doublings} {halvings}\n");
             text
         }
     }

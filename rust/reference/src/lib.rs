@@ -33,6 +33,7 @@ mod heads;
 pub mod hits;
 pub mod many;
 pub mod mask;
+pub mod probes;
 pub mod query;
 pub mod testing;
 pub mod text;
@@ -51,6 +52,7 @@ pub use first_checks::{
 pub use hits::hits;
 pub use many::{query_many, ManyOutcome};
 pub use mask::{all_runs, named_runs};
+pub use probes::{Probe, Probes};
 pub use query::{query, Outcome};
 pub use text::{parse, Question};
 pub use trace::{trace, trace_chosen, Trace};

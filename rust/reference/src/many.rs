@@ -17,8 +17,10 @@ pub enum ManyOutcome {
         parts: u64,
         /// How many certificate bytes were written.
         bytes: u64,
-        /// How many probes were made.
-        probes: u64,
+        /// How many probes were made by doubling.
+        doublings: u64,
+        /// How many probes were made by halving.
+        halvings: u64,
     },
     /// The first checks or a walk met a refusal.
     Refused {
@@ -36,8 +38,10 @@ pub enum ManyOutcome {
         parts: u64,
         /// How many certificate bytes were written.
         bytes: u64,
-        /// How many probes were made.
-        probes: u64,
+        /// How many probes were made by doubling.
+        doublings: u64,
+        /// How many probes were made by halving.
+        halvings: u64,
     },
 }
 
@@ -86,13 +90,15 @@ pub fn query_many(
         answers,
         parts,
         bytes,
-        probes,
+        doublings,
+        halvings,
     } = writer.written();
     ManyOutcome::Accepted {
         answers,
         parts,
         bytes,
-        probes,
+        doublings,
+        halvings,
     }
 }
 
@@ -136,6 +142,7 @@ fn refused(refusal: Refusal, question: usize, written: Written) -> ManyOutcome {
         answers: written.answers,
         parts: written.parts,
         bytes: written.bytes,
-        probes: written.probes,
+        doublings: written.doublings,
+        halvings: written.halvings,
     }
 }

@@ -16,8 +16,10 @@ pub enum Outcome {
         parts: u64,
         /// How many certificate bytes were written.
         bytes: u64,
-        /// How many probes were made.
-        probes: u64,
+        /// How many probes were made by doubling.
+        doublings: u64,
+        /// How many probes were made by halving.
+        halvings: u64,
     },
     /// The first checks or the walk met a refusal.
     Refused {
@@ -30,8 +32,10 @@ pub enum Outcome {
         answers: u64,
         /// How many certificate bytes were written.
         bytes: u64,
-        /// How many probes were made.
-        probes: u64,
+        /// How many probes were made by doubling.
+        doublings: u64,
+        /// How many probes were made by halving.
+        halvings: u64,
     },
 }
 
@@ -55,7 +59,8 @@ pub fn query(
             place,
             answers: 0,
             bytes: 0,
-            probes: 0,
+            doublings: 0,
+            halvings: 0,
         };
     }
     let runs = split_runs(numbers, ends);
@@ -65,21 +70,24 @@ pub fn query(
         answers,
         parts,
         bytes,
-        probes,
+        doublings,
+        halvings,
     } = writer.written();
     match end {
         Ok(()) => Outcome::Accepted {
             answers,
             parts,
             bytes,
-            probes,
+            doublings,
+            halvings,
         },
         Err(number) => Outcome::Refused {
             number,
             place: parts,
             answers,
             bytes,
-            probes,
+            doublings,
+            halvings,
         },
     }
 }

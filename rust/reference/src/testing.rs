@@ -40,6 +40,20 @@ pub const SEVEN_RUNS: [&[u32]; 7] = [
     &[8, 10, 19, 20],
 ];
 
+/// The parts of [`sixteen_and_one`] with threshold 2.
+pub const SIXTEEN_AND_ONE_PARTS: [Part; 3] = [gap(0, 114, 2), gap(115, 119, 1), gap(120, M, 2)];
+
+/// {10, 20, .., 160} and {115}. With threshold 2 there is one search that
+/// probes: after places 1, 2, 4 and 8 it halves at 12, 10 and 11.
+pub fn sixteen_and_one() -> [Vec<u32>; 2] {
+    [tens(16), vec![115]]
+}
+
+/// The first multiples of ten.
+fn tens(count: u32) -> Vec<u32> {
+    (1..=count).map(|i| 10 * i).collect()
+}
+
 /// An answer, for short lists of expected parts.
 pub const fn hit(value: u32, mask: u64) -> Part {
     Part::Answer { value, mask }
@@ -50,25 +64,40 @@ pub const fn gap(first: u32, last: u32, mask: u64) -> Part {
     Part::Gap { first, last, mask }
 }
 
-/// The outcome of an accepted query.
-pub const fn accepted(answers: u64, parts: u64, bytes: u64, probes: u64) -> Outcome {
+/// The outcome of an accepted query; of the probes the doublings come first.
+pub const fn accepted(answers: u64, parts: u64, bytes: u64, probes: [u64; 2]) -> Outcome {
+    let [doublings, halvings] = probes;
     Outcome::Accepted {
         answers,
         parts,
         bytes,
-        probes,
+        doublings,
+        halvings,
     }
 }
 
 /// The outcome of a refused query.
-pub const fn refused(number: u8, place: u64, answers: u64, bytes: u64, probes: u64) -> Outcome {
+pub const fn refused(
+    number: u8,
+    place: u64,
+    answers: u64,
+    bytes: u64,
+    probes: [u64; 2],
+) -> Outcome {
+    let [doublings, halvings] = probes;
     Outcome::Refused {
         number,
         place,
         answers,
         bytes,
-        probes,
+        doublings,
+        halvings,
     }
+}
+
+/// The outcome of a query that a first check refuses.
+pub const fn refused_first(number: u8, place: u64) -> Outcome {
+    refused(number, place, 0, 0, [0, 0])
 }
 
 /// The values of the answers among some parts.
@@ -194,79 +223,80 @@ impl Instance {
 
 /// The instances of docs/SPECIFICATION.md and the edges near them.
 pub fn instances() -> Vec<Instance> {
-    let tens: Vec<u32> = (1..=10).map(|i| 10 * i).collect();
+    let against_ten = [vec![100], tens(10)];
     let none: [&[u32]; 0] = [];
     let three = THREE_RUNS_PARTS;
+    let sixteen = SIXTEEN_AND_ONE_PARTS;
     let mut all = vec![
         Instance::new(
             "three runs",
             &THREE_RUNS,
             (2, 3),
             &three,
-            accepted(2, 6, 106, 3),
+            accepted(2, 6, 106, [3, 0]),
         ),
         Instance::new(
             "three runs, one probe short",
             &THREE_RUNS,
             (2, 2),
             &three[..4],
-            refused(7, 4, 1, 72, 2),
+            refused(7, 4, 1, 72, [2, 0]),
         ),
         Instance::new(
             "three runs, no probe",
             &THREE_RUNS,
             (2, 0),
             &three[..1],
-            refused(7, 1, 0, 19, 0),
+            refused(7, 1, 0, 19, [0, 0]),
         ),
         Instance::new(
             "one number against ten",
-            &[&[100][..], &tens],
+            &against_ten,
             (2, 5),
             &[gap(0, 99, 1), hit(100, 3), gap(101, M, 3)],
-            accepted(1, 3, 53, 5),
+            accepted(1, 3, 53, [4, 1]),
         ),
         Instance::new(
             "one number against ten, spent in the search",
-            &[&[100][..], &tens],
+            &against_ten,
             (2, 3),
             &[gap(0, 99, 1)],
-            refused(7, 1, 0, 19, 3),
+            refused(7, 1, 0, 19, [3, 0]),
         ),
         Instance::new(
             "two blocks",
             &[[1, 2, 3], [4, 5, 6]],
             (2, 2),
             &[gap(0, 3, 2), gap(4, M, 1)],
-            accepted(0, 2, 38, 2),
+            accepted(0, 2, 38, [2, 0]),
         ),
         Instance::new(
             "both ends of the line",
             &[[0, M]],
             (1, 0),
             &[hit(0, 1), gap(1, 4_294_967_294, 1), hit(M, 1)],
-            accepted(2, 3, 49, 0),
+            accepted(2, 3, 49, [0, 0]),
         ),
         Instance::new(
             "one empty run",
             &[[]],
             (1, 0),
             &[gap(0, M, 1)],
-            accepted(0, 1, 19, 0),
+            accepted(0, 1, 19, [0, 0]),
         ),
         Instance::new(
             "two equal runs",
             &[[7], [7]],
             (2, 0),
             &[gap(0, 6, 3), hit(7, 3), gap(8, M, 3)],
-            accepted(1, 3, 53, 0),
+            accepted(1, 3, 53, [0, 0]),
         ),
         Instance::new(
             "seven runs, all",
             &SEVEN_RUNS,
             (7, 11),
             &[gap(0, 8, 9), gap(9, 9, 112), gap(10, M, 1)],
-            accepted(0, 3, 57, 11),
+            accepted(0, 3, 57, [10, 1]),
         ),
         Instance::new(
             "seven runs, four",
@@ -280,16 +310,23 @@ pub fn instances() -> Vec<Instance> {
                 gap(11, 16, 113),
                 gap(17, M, 47),
             ],
-            accepted(1, 6, 110, 13),
+            accepted(1, 6, 110, [12, 1]),
         ),
         // In the search for 55, after places 1, 2 and 4, halving probes place
         // 5 if it rounds down, but places 6 and 5 if it rounds up.
         Instance::new(
             "halving rounds down",
-            &[&[10, 20, 30, 40, 50, 60, 70][..], &[55]],
+            &[tens(7), vec![55]],
             (2, 4),
             &[gap(0, 54, 2), gap(55, 59, 1), gap(60, M, 2)],
-            accepted(0, 3, 57, 4),
+            accepted(0, 3, 57, [3, 1]),
+        ),
+        Instance::new(
+            "one number among sixteen",
+            &sixteen_and_one(),
+            (2, 7),
+            &sixteen,
+            accepted(0, 3, 57, [4, 3]),
         ),
         // A largest number that too few runs hold is a gap of its own.
         Instance::new(
@@ -297,28 +334,39 @@ pub fn instances() -> Vec<Instance> {
             &[[3], [M]],
             (2, 0),
             &[gap(0, M - 1, 2), gap(M, M, 1)],
-            accepted(0, 2, 38, 0),
+            accepted(0, 2, 38, [0, 0]),
         ),
-        Instance::new("no runs", &none, (1, 0), &[], refused(1, 0, 0, 0, 0)),
-        Instance::new("65 runs", &[[7]; 65], (64, 0), &[], refused(1, 65, 0, 0, 0)),
+        Instance::new("no runs", &none, (1, 0), &[], refused_first(1, 0)),
+        Instance::new("65 runs", &[[7]; 65], (64, 0), &[], refused_first(1, 65)),
         Instance::new(
             "a run that repeats a number",
             &[[3, 3]],
             (1, 0),
             &[],
-            refused(4, 1, 0, 0, 0),
+            refused_first(4, 1),
         ),
     ];
+    // Cut in its doubling, at the seam and in its halving.
+    for (allowance, probes) in [(3, [3, 0]), (4, [4, 0]), (5, [4, 1]), (6, [4, 2])] {
+        all.push(Instance::new(
+            format!("one number among sixteen, allowance {allowance}"),
+            &sixteen_and_one(),
+            (2, allowance),
+            &sixteen[..1],
+            refused(7, 1, 0, 19, probes),
+        ));
+    }
     for k in 1..=64 {
         let runs = vec![[7]; k as usize];
         let mask = u64::MAX >> (64 - k);
         let parts = [gap(0, 6, mask), hit(7, mask), gap(8, M, mask)];
         let named = |rest: &str| format!("{k} equal runs, {rest}");
-        let above = refused(2, u64::from(k) + 1, 0, 0, 0);
+        let whole = accepted(1, 3, 53, [0, 0]);
+        let above = refused_first(2, u64::from(k) + 1);
         all.extend([
-            Instance::new(named("all"), &runs, (k, 0), &parts, accepted(1, 3, 53, 0)),
+            Instance::new(named("all"), &runs, (k, 0), &parts, whole),
             Instance::new(named("one too many"), &runs, (k + 1, 0), &[], above),
-            Instance::new(named("none"), &runs, (0, 0), &[], refused(2, 0, 0, 0, 0)),
+            Instance::new(named("none"), &runs, (0, 0), &[], refused_first(2, 0)),
         ]);
     }
     all

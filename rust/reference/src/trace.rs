@@ -3,6 +3,7 @@
 use crate::certificate::Part;
 use crate::first_checks::{first_checks_chosen, split_runs, Refusal};
 use crate::mask::all_runs;
+use crate::probes::{Probe, Probes};
 use crate::walk::{walk, Recorder};
 
 /// What [`trace()`] returns.
@@ -11,11 +12,20 @@ pub struct Trace {
     /// The parts of the whole certificate.
     pub parts: Vec<Part>,
     /// The probes made in each run, chosen or not.
-    pub probes: Vec<u64>,
+    pub probes: Vec<Probes>,
+    /// The probes of each search, in order.
+    pub searches: Vec<Probes>,
 }
 
-/// Returns the parts of the whole walk and its probes in each run, or the
-/// first refusal if the runs or the threshold fail the first checks.
+impl Trace {
+    /// Returns the probes in all runs together.
+    pub fn all_probes(&self) -> Probes {
+        self.probes.iter().copied().sum()
+    }
+}
+
+/// Returns the parts of the whole walk and its probes, or the first refusal if
+/// the runs or the threshold fail the first checks.
 pub fn trace(numbers: &[u32], ends: &[u32], threshold: u32) -> Result<Trace, Refusal> {
     trace_chosen(numbers, ends, all_runs(ends.len()), threshold)
 }
@@ -31,15 +41,24 @@ pub fn trace_chosen(
     let runs = split_runs(numbers, ends);
     let mut trace = Trace {
         parts: Vec::new(),
-        probes: vec![0; ends.len()],
+        probes: vec![Probes::default(); ends.len()],
+        searches: Vec::new(),
     };
     walk(&runs, mask, threshold as usize, &mut trace).expect("a trace ends no walk");
     Ok(trace)
 }
 
 impl Recorder for Trace {
-    fn probe(&mut self, run: usize) -> Result<(), u8> {
-        self.probes[run] += 1;
+    fn search(&mut self) {
+        self.searches.push(Probes::default());
+    }
+
+    fn probe(&mut self, run: usize, probe: Probe) -> Result<(), u8> {
+        self.probes[run].add(probe);
+        self.searches
+            .last_mut()
+            .expect("a search has begun")
+            .add(probe);
         Ok(())
     }
 

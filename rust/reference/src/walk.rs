@@ -4,12 +4,15 @@
 use crate::first_checks::MAX_RUNS;
 use crate::heads::Heads;
 use crate::mask::{bit, named_runs};
+use crate::probes::Probe;
 
 /// Receives what a walk does, in order. An error is the number of the refusal
 /// that ends the walk there.
 pub(crate) trait Recorder {
-    /// One more probe is due, in the given run.
-    fn probe(&mut self, run: usize) -> Result<(), u8>;
+    /// A search begins.
+    fn search(&mut self) {}
+    /// One more probe of the search is due, in the given run.
+    fn probe(&mut self, run: usize, probe: Probe) -> Result<(), u8>;
     /// An answer is due.
     fn answer(&mut self, value: u32, mask: u64) -> Result<(), u8>;
     /// A gap is due.
@@ -44,7 +47,8 @@ pub(crate) fn walk<R: Recorder>(
         // Step 4.
         let mut holding = at;
         for i in named_runs(below) {
-            position[i] = search(runs[i], position[i], v, || recorder.probe(i))?;
+            recorder.search();
+            position[i] = search(runs[i], position[i], v, |probe| recorder.probe(i, probe))?;
             if runs[i].get(position[i]) == Some(&v) {
                 holding |= bit(i);
             }
@@ -71,12 +75,12 @@ pub(crate) fn walk<R: Recorder>(
 
 /// Returns the first place of `run` after `position` whose number is at least
 /// `v`, or the length of the run. The number at `position` is below `v`.
-/// `probe` is called before each comparison and may end the search.
+/// `due` is told of each probe before it is made and may end the search.
 fn search(
     run: &[u32],
     position: usize,
     v: u32,
-    mut probe: impl FnMut() -> Result<(), u8>,
+    mut due: impl FnMut(Probe) -> Result<(), u8>,
 ) -> Result<usize, u8> {
     // The number at `low` is below v; the one at `high`, if any, is not.
     let mut low = position;
@@ -86,7 +90,7 @@ fn search(
         let Some(&x) = run.get(place) else {
             break run.len();
         };
-        probe()?;
+        due(Probe::Doubling)?;
         if x >= v {
             break place;
         }
@@ -95,7 +99,7 @@ fn search(
     };
     while high - low > 1 {
         let middle = low + (high - low) / 2;
-        probe()?;
+        due(Probe::Halving)?;
         if run[middle] < v {
             low = middle;
         } else {

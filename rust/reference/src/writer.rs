@@ -1,14 +1,15 @@
-//! Where the walks of a call write: the lent buffers, and what is left of the
-//! allowance.
+//! Where the walks of a call write: the lent buffers, and the probes that the
+//! allowance is held against.
 
 use crate::certificate::{answer_field, gap_field};
+use crate::probes::{Probe, Probes};
 use crate::walk::Recorder;
 
 /// Writes walks into the lent buffers, one after another, and ends one when
 /// something is due for which nothing is left.
 pub(crate) struct Writer<'a> {
     allowance: u32,
-    probes_left: u32,
+    probes: Probes,
     answers: &'a mut [u32],
     answers_written: usize,
     certificate: &'a mut [u8],
@@ -22,14 +23,15 @@ pub(crate) struct Written {
     pub(crate) answers: u64,
     pub(crate) parts: u64,
     pub(crate) bytes: u64,
-    pub(crate) probes: u64,
+    pub(crate) doublings: u64,
+    pub(crate) halvings: u64,
 }
 
 impl<'a> Writer<'a> {
     pub(crate) fn new(allowance: u32, answers: &'a mut [u32], certificate: &'a mut [u8]) -> Self {
         Writer {
             allowance,
-            probes_left: allowance,
+            probes: Probes::default(),
             answers,
             answers_written: 0,
             certificate,
@@ -44,7 +46,8 @@ impl<'a> Writer<'a> {
             answers: self.answers_written as u64,
             parts: self.parts_written,
             bytes: self.bytes_written as u64,
-            probes: u64::from(self.allowance - self.probes_left),
+            doublings: self.probes.doublings,
+            halvings: self.probes.halvings,
         }
     }
 
@@ -61,8 +64,11 @@ impl<'a> Writer<'a> {
 }
 
 impl Recorder for Writer<'_> {
-    fn probe(&mut self, _run: usize) -> Result<(), u8> {
-        self.probes_left = self.probes_left.checked_sub(1).ok_or(7)?;
+    fn probe(&mut self, _run: usize, probe: Probe) -> Result<(), u8> {
+        if self.probes.total() == u64::from(self.allowance) {
+            return Err(7);
+        }
+        self.probes.add(probe);
         Ok(())
     }
 

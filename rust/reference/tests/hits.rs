@@ -84,7 +84,7 @@ fn the_largest_threshold_and_allowance() {
     refuses("4294967295 4294967295\n5\n", 2, u64::from(M));
     prints(
         "1 4294967295\n5\n",
-        "gap 0 4 1\nhit 5 1\ngap 6 4294967295 1\ndone 1 3 0\n",
+        "gap 0 4 1\nhit 5 1\ngap 6 4294967295 1\ndone 1 3 0 0\n",
     );
 }
 
@@ -96,11 +96,11 @@ fn no_runs() {
 
 #[test]
 fn empty_runs() {
-    prints("1 0\n\n", "gap 0 4294967295 1\ndone 0 1 0\n");
-    prints("2 0\n\n\n\n", "gap 0 4294967295 7\ndone 0 1 0\n");
+    prints("1 0\n\n", "gap 0 4294967295 1\ndone 0 1 0 0\n");
+    prints("2 0\n\n\n\n", "gap 0 4294967295 7\ndone 0 1 0 0\n");
     prints(
         "1 0\n\n4294967295\n\n",
-        "gap 0 4294967294 7\nhit 4294967295 2\ndone 1 2 0\n",
+        "gap 0 4294967294 7\nhit 4294967295 2\ndone 1 2 0 0\n",
     );
 }
 
@@ -111,7 +111,7 @@ fn leading_zeros() {
     assert_eq!(hits(plain.as_bytes(), false), hits(zeros.as_bytes(), false));
     let many = format!("1 0\n{}7\n", "0".repeat(50_000));
     assert_eq!(hits(many.as_bytes(), false), hits(b"1 0\n7\n", false));
-    prints("1 0\n00\n", "hit 0 1\ngap 1 4294967295 1\ndone 1 2 0\n");
+    prints("1 0\n00\n", "hit 0 1\ngap 1 4294967295 1\ndone 1 2 0 0\n");
 }
 
 #[test]
@@ -191,7 +191,7 @@ fn run_65() {
     let runs = |count: usize| format!("1 0\n{}", "\n".repeat(count));
     prints(
         runs(64),
-        &format!("gap 0 4294967295 {}\ndone 0 1 0\n", u64::MAX),
+        &format!("gap 0 4294967295 {}\ndone 0 1 0 0\n", u64::MAX),
     );
     refuses(runs(65), 12, 66);
     refuses(runs(70), 12, 66);
@@ -239,7 +239,7 @@ fn the_largest_output_fits_the_buffers() {
     let numbers: Vec<String> = (0..1024).map(|i| (3 * i + 1).to_string()).collect();
     let input = format!("1 0\n{}\n", numbers.join(" "));
     let output = String::from_utf8(hits(input.as_bytes(), false)).unwrap();
-    assert!(output.ends_with("done 1024 2049 0\n"));
+    assert!(output.ends_with("done 1024 2049 0 0\n"));
     assert_eq!(output.lines().count(), 2050);
 }
 
@@ -290,14 +290,15 @@ fn sixty_four_equal_runs() {
     let mask = u64::MAX;
     prints(
         format!("64 0\n{}", "7\n".repeat(64)),
-        &format!("gap 0 6 {mask}\nhit 7 {mask}\ngap 8 {M} {mask}\ndone 1 3 0\n"),
+        &format!("gap 0 6 {mask}\nhit 7 {mask}\ngap 8 {M} {mask}\ndone 1 3 0 0\n"),
     );
 }
 
 /// What the program prints, by the plain walk.
 fn expected_output(runs: &[Vec<u32>], threshold: u32, allowance: u32) -> String {
     let walk = PlainWalk::new(runs, threshold);
-    if walk.probes() > u64::from(allowance) {
+    let probes = walk.probes();
+    if probes.total() > u64::from(allowance) {
         let (outcome, ..) = walk.stopped(allowance, 1024, 65536);
         let reference::Outcome::Refused { number, place, .. } = outcome else {
             panic!("the allowance is too small");
@@ -316,7 +317,8 @@ fn expected_output(runs: &[Vec<u32>], threshold: u32, allowance: u32) -> String 
         }
     }
     let parts = walk.parts().len();
-    text + &format!("done {answers} {parts} {}\n", walk.probes())
+    let (doublings, halvings) = (probes.doublings, probes.halvings);
+    text + &format!("done {answers} {parts} {doublings} {halvings}\n")
 }
 
 #[test]

@@ -3,7 +3,7 @@
 mod common;
 
 use common::{ask, counted_answers};
-use reference::testing::{gap, instances, lay_out, slices, Instance, M, THREE_RUNS};
+use reference::testing::{accepted, gap, instances, lay_out, slices, Instance, M, THREE_RUNS};
 use reference::{check, decode, encode, fewest_parts, hits, is_true, query, trace, Verdict};
 
 /// Compares an accepted instance with the definitions and the checker.
@@ -23,9 +23,16 @@ fn settle(instance: &Instance, certificate: &[u8]) {
 
     let whole = trace(&numbers, &ends, *threshold).unwrap();
     assert_eq!(whole.parts, *parts, "{name}");
+    let probes = whole.all_probes();
+    assert_eq!(probes.total(), u64::from(*allowance), "{name}");
     assert_eq!(
-        whole.probes.iter().sum::<u64>(),
-        u64::from(*allowance),
+        instance.outcome,
+        accepted(
+            answers.len() as u64,
+            parts.len() as u64,
+            certificate.len() as u64,
+            [probes.doublings, probes.halvings]
+        ),
         "{name}"
     );
     assert_eq!(
@@ -114,7 +121,7 @@ fn the_printed_listing() {
                    gap 6 8 5\n\
                    hit 9 7\n\
                    gap 10 4294967295 5\n\
-                   done 2 6 3\n";
+                   done 2 6 3 0\n";
     let input = b"2 3\n2 5 9\n5 7 9 12\n1 9\n";
     assert_eq!(hits(input, false), printed.as_bytes());
 }

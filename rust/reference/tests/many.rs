@@ -16,7 +16,7 @@ use reference::{
 const FILLER_RESULT: u64 = 0xabab_abab_abab_abab;
 
 /// The row of the outcome and the three rows that were lent, whole.
-type Found = ([u64; 7], Vec<u32>, Vec<u8>, Vec<u64>);
+type Found = ([u64; 8], Vec<u32>, Vec<u8>, Vec<u64>);
 
 /// Asks with rows of the given lengths.
 fn ask(
@@ -43,7 +43,7 @@ fn ask(
 
 /// Compares all that a call returns and leaves in the three rows.
 fn expect(instance: &ManyInstance, allowance: u32, room: [usize; 3]) {
-    let (numbers, ends) = lay_out(&THREE_RUNS);
+    let (numbers, ends) = lay_out(&instance.runs);
     let questions = (&instance.masks[..], &instance.thresholds[..]);
     let found = ask((&numbers, &ends), questions, allowance, room);
     let mut answers = instance.answers();
@@ -59,7 +59,7 @@ fn expect(instance: &ManyInstance, allowance: u32, room: [usize; 3]) {
 /// Compares each finished question with the definitions, the checker and the
 /// walk of the chosen runs alone.
 fn settle(instance: &ManyInstance) {
-    let (numbers, ends) = lay_out(&THREE_RUNS);
+    let (numbers, ends) = lay_out(&instance.runs);
     let name = instance.name;
     let (all_answers, certificates) = (instance.answers(), encode(&instance.parts));
     let mut from = [0, 0];
@@ -72,12 +72,12 @@ fn settle(instance: &ManyInstance) {
         let parts = decode(bytes).unwrap();
         let whole = trace_chosen(&numbers, &ends, mask, threshold).unwrap();
         assert_eq!(whole.parts, parts, "{name}");
-        let chosen = choose(&THREE_RUNS, mask);
+        let chosen = choose(&instance.runs, mask);
         let alone = lay_out(&chosen);
         let alone = trace(&alone.0, &alone.1, threshold).unwrap().parts;
         assert_eq!(renumber(&alone, mask), parts, "{name}");
         assert_eq!(common::counted_answers(&chosen, threshold), answers);
-        let runs = slices(&THREE_RUNS);
+        let runs = slices(&instance.runs);
         assert!(is_true_chosen(&runs, mask, threshold, &parts), "{name}");
         let valid = Verdict::Valid {
             answers: answers.len() as u64,
@@ -99,7 +99,8 @@ fn every_instance() {
                 instance.row[5] as usize,
                 instance.results.len(),
             ];
-            expect(&instance, instance.row[6] as u32, room);
+            let probes = instance.row[6] + instance.row[7];
+            expect(&instance, probes as u32, room);
             expect(&instance, M, room.map(|places| places + 9));
         }
         settle(&instance);
@@ -116,7 +117,7 @@ fn refused_first(
     let room = [8, 200, 9];
     let found = ask(rows, questions, M, room);
     let expected = (
-        [number, place, question, 0, 0, 0, 0],
+        [number, place, question, 0, 0, 0, 0, 0],
         vec![FILLER; room[0]],
         vec![FILLER_BYTE; room[1]],
         vec![FILLER_RESULT; room[2]],
@@ -186,7 +187,7 @@ fn sixty_four_runs() {
     let thresholds = [64, 1, 1, 63, 1];
     let questions = (&masks[..4], &thresholds[..4]);
     let (row, answers, certificate, results) = ask((&numbers, &ends), questions, 0, [4, 4 * 53, 8]);
-    assert_eq!(row, [0, 0, 0, 4, 12, 4 * 53, 0]);
+    assert_eq!(row, [0, 0, 0, 4, 12, 4 * 53, 0, 0]);
     assert_eq!(answers, [7; 4]);
     assert_eq!(results, [1, 53, 2, 106, 3, 159, 4, 212]);
     for (bytes, mask) in certificate.chunks(53).zip(masks) {
@@ -204,7 +205,7 @@ fn runs_that_are_not_chosen() {
     let (numbers, ends) = lay_out(&runs);
     let (row, answers, certificate, results) =
         ask((&numbers, &ends), (&[4, 1], &[1, 1]), 0, [1, 72, 4]);
-    assert_eq!(row, [0, 0, 0, 1, 4, 72, 0]);
+    assert_eq!(row, [0, 0, 0, 1, 4, 72, 0, 0]);
     assert_eq!(answers, [5]);
     assert_eq!(results, [1, 53, 1, 72]);
     let parts = [gap(0, 4, 4), hit(5, 4), gap(6, M, 4)];
@@ -221,15 +222,15 @@ fn every_allowance() {
         let questions = (&[7, 3, 5][..], &[2, 2, 1][..]);
         ask((&numbers, &ends), questions, allowance, [8, 329, 6])
     };
-    let rows: Vec<[u64; 7]> = (0..=6).map(|allowance| ask(allowance).0).collect();
+    let rows: Vec<[u64; 8]> = (0..=6).map(|allowance| ask(allowance).0).collect();
     let expected = [
-        [7, 1, 0, 0, 1, 19, 0],
-        [7, 2, 0, 0, 2, 38, 1],
-        [7, 4, 0, 1, 4, 72, 2],
-        [7, 1, 1, 2, 7, 125, 3],
-        [7, 3, 1, 3, 9, 159, 4],
-        [0, 0, 0, 8, 19, 329, 5],
-        [0, 0, 0, 8, 19, 329, 5],
+        [7, 1, 0, 0, 1, 19, 0, 0],
+        [7, 2, 0, 0, 2, 38, 1, 0],
+        [7, 4, 0, 1, 4, 72, 2, 0],
+        [7, 1, 1, 2, 7, 125, 3, 0],
+        [7, 3, 1, 3, 9, 159, 4, 0],
+        [0, 0, 0, 8, 19, 329, 5, 0],
+        [0, 0, 0, 8, 19, 329, 5, 0],
     ];
     assert_eq!(rows, expected);
     let written = |allowance| {
@@ -250,5 +251,5 @@ fn nothing_more_is_due() {
     let (numbers, ends) = lay_out(&THREE_RUNS);
     let questions = (&[7, 5, 4][..], &[2, 1, 1][..]);
     let (row, ..) = ask((&numbers, &ends), questions, 3, [8, 329, 6]);
-    assert_eq!(row, [0, 0, 0, 8, 19, 329, 3]);
+    assert_eq!(row, [0, 0, 0, 8, 19, 329, 3, 0]);
 }

@@ -4,13 +4,13 @@
 
 mod common;
 
-use common::{any_runs, counted_answers, Event, Limited, PlainWalk};
+use common::{any_runs, counted_answers, long_and_short, Event, Limited, PlainWalk};
 use reference::testing::{
     choose, gap, hit, lay_out, many_row, renumber, slices, small_inputs, Random, M,
 };
 use reference::{
     all_runs, check_chosen, decode, encode, fewest_parts, is_true_chosen, probe_bound_chosen,
-    query, query_many, Outcome, Part, Verdict,
+    query, query_many, Outcome, Part, Probes, Verdict,
 };
 
 /// Questions over some runs, each with its whole walk.
@@ -67,7 +67,7 @@ impl Asked {
     }
 
     /// What a call returns, and the three rows after it.
-    fn expected(&self, allowance: u32, rows: &mut Rows) -> [u64; 7] {
+    fn expected(&self, allowance: u32, rows: &mut Rows) -> [u64; 8] {
         let room = [rows.answers.len(), rows.certificate.len()];
         let mut limited = Limited::new(allowance, room[0], room[1]);
         let mut refusal = [0; 3];
@@ -87,12 +87,14 @@ impl Asked {
         let counts = [limited.answers.len(), limited.parts.len(), bytes.len()];
         let [answers, parts, bytes] = counts.map(|count| count as u64);
         let [number, place, question] = refusal;
-        let probes = limited.probes;
-        [number, place, question, answers, parts, bytes, probes]
+        let [doublings, halvings] = limited.probes;
+        [
+            number, place, question, answers, parts, bytes, doublings, halvings,
+        ]
     }
 
     /// Compares a call with the plain form, in rows of noise.
-    fn compare(&self, random: &mut Random, allowance: u32, room: [usize; 3]) -> [u64; 7] {
+    fn compare(&self, random: &mut Random, allowance: u32, room: [usize; 3]) -> [u64; 8] {
         let (numbers, ends) = lay_out(&self.runs);
         let mut expected = Rows::new(random, room);
         let mut found = expected.clone();
@@ -123,8 +125,8 @@ impl Asked {
         let parts: Vec<Part> = self.walks.iter().flat_map(PlainWalk::parts).collect();
         let is_answer = |part: &&Part| matches!(part, Part::Answer { .. });
         let answers = parts.iter().filter(is_answer).count();
-        let probes: u64 = self.walks.iter().map(PlainWalk::probes).sum();
-        ([answers, encode(&parts).len()], probes as u32)
+        let probes: Probes = self.walks.iter().map(PlainWalk::probes).sum();
+        ([answers, encode(&parts).len()], probes.total() as u32)
     }
 }
 
@@ -166,11 +168,11 @@ fn whole_walks(random: &mut Random, asked: &Asked) {
         let verdict = check_chosen(&numbers, &ends, mask, threshold, &encode(&parts));
         assert_eq!(verdict, valid);
         let bound = probe_bound_chosen(&ends, mask, parts.len() as u32).unwrap();
-        assert!(walk.probes() <= bound);
+        assert!(walk.probes().total() <= bound);
         bounds += bound;
     }
     let row = asked.compare(random, bounds as u32, room);
-    assert_eq!((row[0], row[6]), (0, u64::from(probes)));
+    assert_eq!((row[0], row[6] + row[7]), (0, u64::from(probes)));
 }
 
 #[test]
@@ -237,6 +239,28 @@ fn stopping_early() {
     );
 }
 
+/// Every allowance where searches go far: it ends them in their doubling, at
+/// the seam and in their halving, of every question.
+#[test]
+fn stopping_early_in_long_searches() {
+    let mut random = Random(26);
+    let mut long_searches = 0;
+    for _ in 0..200 {
+        let runs = long_and_short(&mut random);
+        let mut asked = Asked::new(&mut random, runs, 0);
+        for threshold in [2, 1, 2, 2] {
+            asked.push(3, threshold);
+        }
+        let ([answers, bytes], probes) = asked.needs();
+        for allowance in 0..=probes {
+            asked.compare(&mut random, allowance, [answers, bytes, 8]);
+        }
+        let long = asked.walks.iter().map(PlainWalk::long_searches);
+        long_searches += long.sum::<usize>();
+    }
+    assert!(long_searches > 500, "{long_searches}");
+}
+
 /// One question over all runs is the single question.
 #[test]
 fn one_question_over_all_runs() {
@@ -273,18 +297,29 @@ fn one_question_over_all_runs() {
                 answers,
                 parts,
                 bytes,
-                probes,
+                doublings,
+                halvings,
             } => {
                 expected.results = vec![answers, bytes];
-                [0, 0, 0, answers, parts, bytes, probes]
+                [0, 0, 0, answers, parts, bytes, doublings, halvings]
             }
             Outcome::Refused {
                 number,
                 place,
                 answers,
                 bytes,
-                probes,
-            } => [number.into(), place, 0, answers, place, bytes, probes],
+                doublings,
+                halvings,
+            } => [
+                number.into(),
+                place,
+                0,
+                answers,
+                place,
+                bytes,
+                doublings,
+                halvings,
+            ],
         };
         assert_eq!(many_row(outcome), row);
         assert_eq!(found, expected);

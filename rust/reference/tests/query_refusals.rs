@@ -3,7 +3,7 @@
 mod common;
 
 use common::{ask, FILLER, FILLER_BYTE};
-use reference::testing::{accepted, gap, hit, refused, M};
+use reference::testing::{self, accepted, gap, hit, refused, M};
 use reference::{decode, encode, first_checks, query, trace, Outcome, Refusal, MAX_NUMBERS};
 
 /// Asks with large buffers and expects a refusal of the first checks, with
@@ -12,7 +12,7 @@ fn refused_first(numbers: &[u32], ends: &[u32], threshold: u32, number: u8, plac
     let mut answers = [FILLER; 8];
     let mut certificate = [FILLER_BYTE; 200];
     let outcome = query(numbers, ends, threshold, M, &mut answers, &mut certificate);
-    assert_eq!(outcome, refused(number, place, 0, 0, 0));
+    assert_eq!(outcome, testing::refused_first(number, place));
     assert_eq!(answers, [FILLER; 8]);
     assert_eq!(certificate, [FILLER_BYTE; 200]);
     let refusal = Refusal { number, place };
@@ -87,7 +87,7 @@ fn refusal_3_above_the_largest_count_of_numbers() {
         &mut vec![0; 15 * MAX_NUMBERS + 19],
     );
     let count = MAX_NUMBERS as u64;
-    assert_eq!(outcome, accepted(count, count + 1, 15 * count + 19, 0));
+    assert_eq!(outcome, accepted(count, count + 1, 15 * count + 19, [0, 0]));
 }
 
 #[test]
@@ -111,12 +111,12 @@ fn runs_are_not_compared_with_each_other() {
 fn empty_runs_have_no_head() {
     let empty: [&[u32]; 3] = [&[], &[], &[]];
     let (outcome, _, bytes) = ask(&empty, 2, 0, 0, 19);
-    assert_eq!(outcome, accepted(0, 1, 19, 0));
+    assert_eq!(outcome, accepted(0, 1, 19, [0, 0]));
     assert_eq!(bytes, encode(&[gap(0, M, 7)]));
 
     let some: [&[u32]; 3] = [&[], &[4], &[]];
     let (outcome, answers, bytes) = ask(&some, 1, 0, 1, 53);
-    assert_eq!(outcome, accepted(1, 3, 53, 0));
+    assert_eq!(outcome, accepted(1, 3, 53, [0, 0]));
     assert_eq!(answers, [4]);
     assert_eq!(bytes, encode(&[gap(0, 3, 7), hit(4, 2), gap(5, M, 7)]));
 }
@@ -125,15 +125,15 @@ fn empty_runs_have_no_head() {
 fn a_buffer_is_looked_at_only_when_something_is_due() {
     // No answer is due, so no room for answers is needed.
     let (outcome, ..) = ask(&[[1], [4]], 2, 0, 0, 38);
-    assert_eq!(outcome, accepted(0, 2, 38, 0));
+    assert_eq!(outcome, accepted(0, 2, 38, [0, 0]));
     // No probe is due, so an allowance of 0 is enough.
     let (outcome, ..) = ask(&[[7], [7]], 2, 0, 1, 53);
-    assert_eq!(outcome, accepted(1, 3, 53, 0));
+    assert_eq!(outcome, accepted(1, 3, 53, [0, 0]));
     // Exactly the probes needed.
     let (outcome, ..) = ask(&[[1, 2, 3], [4, 5, 6]], 2, 2, 0, 38);
-    assert_eq!(outcome, accepted(0, 2, 38, 2));
+    assert_eq!(outcome, accepted(0, 2, 38, [2, 0]));
     let (outcome, ..) = ask(&[[1, 2, 3], [4, 5, 6]], 2, 1, 0, 38);
-    assert_eq!(outcome, refused(7, 1, 0, 19, 1));
+    assert_eq!(outcome, refused(7, 1, 0, 19, [1, 0]));
 }
 
 /// The search in the first run starts at its last place: it moves the run on
@@ -141,7 +141,7 @@ fn a_buffer_is_looked_at_only_when_something_is_due() {
 #[test]
 fn a_search_without_a_probe() {
     let (outcome, _, bytes) = ask(&[[1], [5]], 2, 0, 0, 100);
-    assert_eq!(outcome, accepted(0, 2, 38, 0));
+    assert_eq!(outcome, accepted(0, 2, 38, [0, 0]));
     assert_eq!(bytes, encode(&[gap(0, 4, 2), gap(5, M, 1)]));
 }
 
@@ -150,7 +150,7 @@ fn a_search_without_a_probe() {
 fn the_place_after_the_last_number_is_not_probed() {
     let runs: [&[u32]; 2] = [&[1, 2], &[5]];
     let (outcome, _, bytes) = ask(&runs, 2, 1, 0, 100);
-    assert_eq!(outcome, accepted(0, 2, 38, 1));
+    assert_eq!(outcome, accepted(0, 2, 38, [1, 0]));
     assert_eq!(bytes, encode(&[gap(0, 4, 2), gap(5, M, 1)]));
 }
 
@@ -159,44 +159,44 @@ fn refusal_5_when_the_answers_are_full() {
     let runs = [[2, 4]];
     let whole = encode(&[gap(0, 1, 1), hit(2, 1), gap(3, 3, 1), hit(4, 1)]);
     let (outcome, answers, bytes) = ask(&runs, 1, 0, 0, 100);
-    assert_eq!(outcome, refused(5, 1, 0, 19, 0));
+    assert_eq!(outcome, refused(5, 1, 0, 19, [0, 0]));
     assert!(answers.is_empty());
     assert_eq!(bytes, whole[..19]);
     let (outcome, answers, bytes) = ask(&runs, 1, 0, 1, 100);
-    assert_eq!(outcome, refused(5, 3, 1, 53, 0));
+    assert_eq!(outcome, refused(5, 3, 1, 53, [0, 0]));
     assert_eq!(answers, [2]);
     assert_eq!(bytes, whole[..53]);
     let (outcome, answers, _) = ask(&runs, 1, 0, 2, 100);
-    assert_eq!(outcome, accepted(2, 5, 87, 0));
+    assert_eq!(outcome, accepted(2, 5, 87, [0, 0]));
     assert_eq!(answers, [2, 4]);
 }
 
 #[test]
 fn refusal_5_comes_before_6_at_an_answer() {
     let runs = [[2, 4]];
-    assert_eq!(ask(&runs, 1, 0, 0, 19).0, refused(5, 1, 0, 19, 0));
-    assert_eq!(ask(&runs, 1, 0, 1, 19).0, refused(6, 1, 0, 19, 0));
-    assert_eq!(ask(&runs, 1, 0, 1, 53).0, refused(5, 3, 1, 53, 0));
-    assert_eq!(ask(&runs, 1, 0, 2, 53).0, refused(6, 3, 1, 53, 0));
+    assert_eq!(ask(&runs, 1, 0, 0, 19).0, refused(5, 1, 0, 19, [0, 0]));
+    assert_eq!(ask(&runs, 1, 0, 1, 19).0, refused(6, 1, 0, 19, [0, 0]));
+    assert_eq!(ask(&runs, 1, 0, 1, 53).0, refused(5, 3, 1, 53, [0, 0]));
+    assert_eq!(ask(&runs, 1, 0, 2, 53).0, refused(6, 3, 1, 53, [0, 0]));
     // At the gap before it only 6 can come.
-    assert_eq!(ask(&runs, 1, 0, 0, 18).0, refused(6, 0, 0, 0, 0));
+    assert_eq!(ask(&runs, 1, 0, 0, 18).0, refused(6, 0, 0, 0, [0, 0]));
 }
 
 #[test]
 fn refusal_6_when_a_part_does_not_fit_whole() {
     let runs = [[2, 4]];
     let fits = |room| ask(&runs, 1, 0, 9, room).0;
-    assert_eq!(fits(0), refused(6, 0, 0, 0, 0));
-    assert_eq!(fits(18), refused(6, 0, 0, 0, 0));
-    assert_eq!(fits(19), refused(6, 1, 0, 19, 0));
-    assert_eq!(fits(33), refused(6, 1, 0, 19, 0));
-    assert_eq!(fits(34), refused(6, 2, 1, 34, 0));
-    assert_eq!(fits(52), refused(6, 2, 1, 34, 0));
-    assert_eq!(fits(53), refused(6, 3, 1, 53, 0));
-    assert_eq!(fits(67), refused(6, 3, 1, 53, 0));
-    assert_eq!(fits(68), refused(6, 4, 2, 68, 0));
-    assert_eq!(fits(86), refused(6, 4, 2, 68, 0));
-    assert_eq!(fits(87), accepted(2, 5, 87, 0));
+    assert_eq!(fits(0), refused(6, 0, 0, 0, [0, 0]));
+    assert_eq!(fits(18), refused(6, 0, 0, 0, [0, 0]));
+    assert_eq!(fits(19), refused(6, 1, 0, 19, [0, 0]));
+    assert_eq!(fits(33), refused(6, 1, 0, 19, [0, 0]));
+    assert_eq!(fits(34), refused(6, 2, 1, 34, [0, 0]));
+    assert_eq!(fits(52), refused(6, 2, 1, 34, [0, 0]));
+    assert_eq!(fits(53), refused(6, 3, 1, 53, [0, 0]));
+    assert_eq!(fits(67), refused(6, 3, 1, 53, [0, 0]));
+    assert_eq!(fits(68), refused(6, 4, 2, 68, [0, 0]));
+    assert_eq!(fits(86), refused(6, 4, 2, 68, [0, 0]));
+    assert_eq!(fits(87), accepted(2, 5, 87, [0, 0]));
     // After a refusal at an answer its number is not written either.
     assert_eq!(ask(&runs, 1, 0, 9, 33).1, Vec::<u32>::new());
 }
@@ -205,13 +205,26 @@ fn refusal_6_when_a_part_does_not_fit_whole() {
 #[test]
 fn the_order_of_the_steps() {
     let runs: [&[u32]; 2] = [&[1, 2, 7], &[7]];
-    assert_eq!(ask(&runs, 2, 0, 0, 0).0, refused(6, 0, 0, 0, 0));
-    assert_eq!(ask(&runs, 2, 0, 0, 19).0, refused(7, 1, 0, 19, 0));
-    assert_eq!(ask(&runs, 2, 1, 0, 19).0, refused(7, 1, 0, 19, 1));
-    assert_eq!(ask(&runs, 2, 2, 0, 19).0, refused(5, 1, 0, 19, 2));
-    assert_eq!(ask(&runs, 2, 2, 1, 19).0, refused(6, 1, 0, 19, 2));
-    assert_eq!(ask(&runs, 2, 2, 1, 34).0, refused(6, 2, 1, 34, 2));
-    assert_eq!(ask(&runs, 2, 2, 1, 53).0, accepted(1, 3, 53, 2));
+    assert_eq!(ask(&runs, 2, 0, 0, 0).0, refused(6, 0, 0, 0, [0, 0]));
+    assert_eq!(ask(&runs, 2, 0, 0, 19).0, refused(7, 1, 0, 19, [0, 0]));
+    assert_eq!(ask(&runs, 2, 1, 0, 19).0, refused(7, 1, 0, 19, [1, 0]));
+    assert_eq!(ask(&runs, 2, 2, 0, 19).0, refused(5, 1, 0, 19, [2, 0]));
+    assert_eq!(ask(&runs, 2, 2, 1, 19).0, refused(6, 1, 0, 19, [2, 0]));
+    assert_eq!(ask(&runs, 2, 2, 1, 34).0, refused(6, 2, 1, 34, [2, 0]));
+    assert_eq!(ask(&runs, 2, 2, 1, 53).0, accepted(1, 3, 53, [2, 0]));
+}
+
+/// The search probes places 1 and 2 by doubling and then place 3 by halving;
+/// each refusal tells what was made of either.
+#[test]
+fn probes_before_a_refusal() {
+    let runs: [&[u32]; 2] = [&[1, 2, 3, 7], &[7]];
+    assert_eq!(ask(&runs, 2, 1, 1, 53).0, refused(7, 1, 0, 19, [1, 0]));
+    assert_eq!(ask(&runs, 2, 2, 1, 53).0, refused(7, 1, 0, 19, [2, 0]));
+    assert_eq!(ask(&runs, 2, 3, 0, 53).0, refused(5, 1, 0, 19, [2, 1]));
+    assert_eq!(ask(&runs, 2, 3, 1, 33).0, refused(6, 1, 0, 19, [2, 1]));
+    assert_eq!(ask(&runs, 2, 3, 1, 34).0, refused(6, 2, 1, 34, [2, 1]));
+    assert_eq!(ask(&runs, 2, 3, 1, 53).0, accepted(1, 3, 53, [2, 1]));
 }
 
 /// After its search run 0 has no head, but it holds 1 and must not be named.
@@ -219,7 +232,7 @@ fn the_order_of_the_steps() {
 fn a_gap_is_named_before_the_searches_of_its_round() {
     let runs: [&[u32]; 3] = [&[1], &[3], &[3]];
     let (outcome, _, bytes) = ask(&runs, 2, 0, 1, 100);
-    assert_eq!(outcome, accepted(1, 3, 53, 0));
+    assert_eq!(outcome, accepted(1, 3, 53, [0, 0]));
     let parts = [gap(0, 2, 6), hit(3, 6), gap(4, M, 7)];
     assert_eq!(decode(&bytes).unwrap(), parts);
 }
@@ -227,16 +240,16 @@ fn a_gap_is_named_before_the_searches_of_its_round() {
 #[test]
 fn only_an_answer_at_the_largest_bin_ends_without_a_gap() {
     let (outcome, answers, bytes) = ask(&[[M], [M]], 2, 0, 1, 100);
-    assert_eq!(outcome, accepted(1, 2, 34, 0));
+    assert_eq!(outcome, accepted(1, 2, 34, [0, 0]));
     assert_eq!(answers, [M]);
     assert_eq!(bytes, encode(&[gap(0, M - 1, 3), hit(M, 3)]));
 
     let (outcome, _, bytes) = ask(&[[5], [M]], 2, 0, 0, 100);
-    assert_eq!(outcome, accepted(0, 2, 38, 0));
+    assert_eq!(outcome, accepted(0, 2, 38, [0, 0]));
     assert_eq!(bytes, encode(&[gap(0, M - 1, 2), gap(M, M, 1)]));
 
     let (outcome, _, bytes) = ask(&[[M - 1], [M]], 1, 0, 2, 100);
-    assert_eq!(outcome, accepted(2, 3, 49, 0));
+    assert_eq!(outcome, accepted(2, 3, 49, [0, 0]));
     assert_eq!(bytes, encode(&[gap(0, M - 2, 3), hit(M - 1, 1), hit(M, 2)]));
 }
 
@@ -245,7 +258,7 @@ fn only_an_answer_at_the_largest_bin_ends_without_a_gap() {
 fn an_answer_names_all_runs_that_hold_it() {
     let runs: [&[u32]; 4] = [&[3, 8], &[8], &[8], &[8, 9]];
     let (outcome, answers, bytes) = ask(&runs, 2, 1, 9, 100);
-    assert_eq!(outcome, accepted(1, 3, 53, 1));
+    assert_eq!(outcome, accepted(1, 3, 53, [1, 0]));
     assert_eq!(answers, [8]);
     assert_eq!(bytes, encode(&[gap(0, 7, 14), hit(8, 15), gap(9, M, 7)]));
 }
@@ -255,6 +268,6 @@ fn an_answer_names_all_runs_that_hold_it() {
 fn a_bin_just_missed_is_not_tried_again() {
     let runs: [&[u32]; 3] = [&[5], &[5], &[1, 6]];
     let (outcome, _, bytes) = ask(&runs, 3, 1, 0, 100);
-    assert_eq!(outcome, accepted(0, 3, 57, 1));
+    assert_eq!(outcome, accepted(0, 3, 57, [1, 0]));
     assert_eq!(bytes, encode(&[gap(0, 4, 3), gap(5, 5, 4), gap(6, M, 3)]));
 }

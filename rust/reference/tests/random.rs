@@ -4,7 +4,7 @@
 
 mod common;
 
-use common::{any_runs, any_threshold, counted_answers, PlainWalk};
+use common::{any_runs, any_threshold, counted_answers, long_and_short, PlainWalk};
 use reference::testing::{accepted, gap, hit, lay_out, slices, small_inputs, Random, M};
 use reference::{
     check, decode, digits, encode, fewest_parts, is_true, probe_bound, query, trace, Outcome, Part,
@@ -34,10 +34,11 @@ fn whole_walk(runs: &[Vec<u32>], threshold: u32, size: Size) {
     };
     assert_eq!(parts.len(), fewest, "{}", context());
     assert!(plain.full_rounds <= parts.len(), "{}", context());
+    assert_eq!(whole.searches, plain.searches, "{}", context());
     for (i, run) in runs.iter().enumerate() {
         assert_eq!(whole.probes[i], plain.probes_in(i), "{}", context());
         let bound = 2 * fewest as u64 * u64::from(digits(run.len() as u64));
-        assert!(whole.probes[i] <= bound, "{}", context());
+        assert!(whole.probes[i].total() <= bound, "{}", context());
     }
 
     // An allowance of the bound never ends as used up.
@@ -54,6 +55,8 @@ fn whole_walk(runs: &[Vec<u32>], threshold: u32, size: Size) {
     );
     let counts = (expected_answers.len() as u64, parts.len() as u64);
     let probes = plain.probes();
+    assert_eq!(whole.all_probes(), probes, "{}", context());
+    let probes = [probes.doublings, probes.halvings];
     assert_eq!(
         outcome,
         accepted(counts.0, counts.1, bytes.len() as u64, probes)
@@ -140,9 +143,14 @@ impl Stopping {
     fn new(random: &mut Random, most_runs: usize, most_numbers: usize) -> Self {
         let runs = any_runs(random, most_runs, most_numbers);
         let threshold = any_threshold(random, &runs);
+        Stopping::of(runs, threshold)
+    }
+
+    /// These runs, with no noise yet.
+    fn of(runs: Vec<Vec<u32>>, threshold: u32) -> Self {
         let plain = PlainWalk::new(&runs, threshold);
         Stopping {
-            probes: plain.probes() as u32,
+            probes: plain.probes().total() as u32,
             answers: counted_answers(&runs, threshold).len(),
             bytes: encode(&plain.parts()).len(),
             noise: Vec::new(),
@@ -235,6 +243,23 @@ fn stopping_early_one_by_one() {
             stopping.compare(allowance, answer_room, byte_room);
         }
     }
+}
+
+/// Every allowance where searches go far: it ends them in their doubling, at
+/// the seam and in their halving.
+#[test]
+fn stopping_early_in_long_searches() {
+    let mut random = Random(18);
+    let mut long_searches = 0;
+    for _ in 0..500 {
+        let mut stopping = Stopping::of(long_and_short(&mut random), 2);
+        stopping.make_noise(&mut random, 0);
+        for allowance in 0..=stopping.probes {
+            stopping.compare(allowance, stopping.answers, stopping.bytes);
+        }
+        long_searches += stopping.plain.long_searches();
+    }
+    assert!(long_searches > 500, "{long_searches}");
 }
 
 /// Certificates of other writers: gaps cut further, masks made smaller, and

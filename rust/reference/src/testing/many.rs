@@ -1,7 +1,9 @@
 //! Many questions over the same runs: what they come to for the chosen runs
-//! alone, and the specification's instances, all over [`THREE_RUNS`].
+//! alone, and the specification's instances.
 
-use super::{answers_of, gap, hit, M, THREE_RUNS_PARTS};
+use super::{
+    answers_of, gap, hit, sixteen_and_one, M, SIXTEEN_AND_ONE_PARTS, THREE_RUNS, THREE_RUNS_PARTS,
+};
 use crate::{encode, named_runs, ManyOutcome, Part, Refusal, Verdict};
 
 /// The parts of the first two of the three runs with threshold 2.
@@ -60,16 +62,17 @@ pub fn renumber(parts: &[Part], chosen: u64) -> Vec<Part> {
     parts.iter().map(part).collect()
 }
 
-/// An outcome as one row: refusal, place, question, answers, parts, bytes and
-/// probes, the first three 0 if there is no refusal.
-pub fn many_row(outcome: ManyOutcome) -> [u64; 7] {
+/// An outcome as one row: refusal, place, question, answers, parts, bytes,
+/// doublings and halvings, the first three 0 if there is no refusal.
+pub fn many_row(outcome: ManyOutcome) -> [u64; 8] {
     match outcome {
         ManyOutcome::Accepted {
             answers,
             parts,
             bytes,
-            probes,
-        } => [0, 0, 0, answers, parts, bytes, probes],
+            doublings,
+            halvings,
+        } => [0, 0, 0, answers, parts, bytes, doublings, halvings],
         ManyOutcome::Refused {
             number,
             place,
@@ -77,7 +80,8 @@ pub fn many_row(outcome: ManyOutcome) -> [u64; 7] {
             answers,
             parts,
             bytes,
-            probes,
+            doublings,
+            halvings,
         } => [
             number.into(),
             place,
@@ -85,16 +89,19 @@ pub fn many_row(outcome: ManyOutcome) -> [u64; 7] {
             answers,
             parts,
             bytes,
-            probes,
+            doublings,
+            halvings,
         ],
     }
 }
 
-/// A call of many questions over the three runs and what is expected of it.
+/// A call of many questions and what is expected of it.
 #[derive(Clone, Debug)]
 pub struct ManyInstance {
     /// What the instance shows.
     pub name: &'static str,
+    /// The runs.
+    pub runs: Vec<Vec<u32>>,
     /// The runs that each question is about.
     pub masks: Vec<u64>,
     /// How many of these must hold an answer.
@@ -109,15 +116,16 @@ pub struct ManyInstance {
     /// The results written.
     pub results: Vec<u64>,
     /// The outcome, as [`many_row`] gives it.
-    pub row: [u64; 7],
+    pub row: [u64; 8],
 }
 
 impl ManyInstance {
-    /// A call with ample room and allowance that is refused before anything is
-    /// written.
-    fn new(name: &'static str, masks: &[u64], thresholds: &[u32], row: [u64; 7]) -> Self {
+    /// A call over [`THREE_RUNS`] with ample room and allowance that is refused
+    /// before anything is written.
+    fn new(name: &'static str, masks: &[u64], thresholds: &[u32], row: [u64; 8]) -> Self {
         ManyInstance {
             name,
+            runs: THREE_RUNS.map(<[u32]>::to_vec).to_vec(),
             masks: masks.to_vec(),
             thresholds: thresholds.to_vec(),
             allowance: 1_000,
@@ -147,11 +155,17 @@ pub fn many_instances() -> Vec<ManyInstance> {
     let last_two = &LAST_TWO_PARTS;
     let three = |row| ManyInstance::new("three questions", &[7, 3, 5], &[2, 2, 1], row);
     let two = |row| ManyInstance::new("two questions", &[7, 6], &[2, 1], row);
-    let whole =
-        three([0, 0, 0, 8, 19, 329, 5]).writing(&[first, second, third], &[2, 106, 4, 193, 8, 329]);
+    let whole = three([0, 0, 0, 8, 19, 329, 5, 0])
+        .writing(&[first, second, third], &[2, 106, 4, 193, 8, 329]);
     let refused = |name, masks: &[u64], thresholds: &[u32], [number, place, question]: [u64; 3]| {
-        let row = [number, place, question, 0, 0, 0, 0];
+        let row = [number, place, question, 0, 0, 0, 0, 0];
         ManyInstance::new(name, masks, thresholds, row)
+    };
+    let sixteen = &SIXTEEN_AND_ONE_PARTS;
+    let twice = |allowance, row| ManyInstance {
+        runs: sixteen_and_one().to_vec(),
+        allowance,
+        ..ManyInstance::new("a search that halves, asked twice", &[3, 3], &[2, 2], row)
     };
     vec![
         whole.clone(),
@@ -164,38 +178,38 @@ pub fn many_instances() -> Vec<ManyInstance> {
         ManyInstance {
             name: "three questions, spent after the second gap",
             allowance: 3,
-            ..three([7, 1, 1, 2, 7, 125, 3]).writing(&[first, &second[..1]], &[2, 106])
+            ..three([7, 1, 1, 2, 7, 125, 3, 0]).writing(&[first, &second[..1]], &[2, 106])
         },
         ManyInstance {
             name: "three questions, spent at the last search",
             allowance: 4,
-            ..three([7, 3, 1, 3, 9, 159, 4]).writing(&[first, &second[..3]], &[2, 106])
+            ..three([7, 3, 1, 3, 9, 159, 4, 0]).writing(&[first, &second[..3]], &[2, 106])
         },
         ManyInstance {
             name: "three questions, spent in the first",
             allowance: 2,
-            ..three([7, 4, 0, 1, 4, 72, 2]).writing(&[&first[..4]], &[])
+            ..three([7, 4, 0, 1, 4, 72, 2, 0]).writing(&[&first[..4]], &[])
         },
         ManyInstance {
             name: "two questions, room for three answers",
             room: [3, 1_000, 4],
-            ..two([5, 3, 1, 3, 9, 159, 3]).writing(&[first, &last_two[..3]], &[2, 106])
+            ..two([5, 3, 1, 3, 9, 159, 3, 0]).writing(&[first, &last_two[..3]], &[2, 106])
         },
         ManyInstance {
             name: "two questions, room for 130 bytes",
             room: [100, 130, 4],
-            ..two([6, 1, 1, 2, 7, 125, 3]).writing(&[first, &last_two[..1]], &[2, 106])
+            ..two([6, 1, 1, 2, 7, 125, 3, 0]).writing(&[first, &last_two[..1]], &[2, 106])
         },
         ManyInstance {
             name: "two questions, room for the first alone",
             room: [2, 106, 4],
-            ..two([6, 0, 1, 2, 6, 106, 3]).writing(&[first], &[2, 106])
+            ..two([6, 0, 1, 2, 6, 106, 3, 0]).writing(&[first], &[2, 106])
         },
         ManyInstance::new(
             "one question over one run",
             &[4],
             &[1],
-            [0, 0, 0, 2, 5, 87, 0],
+            [0, 0, 0, 2, 5, 87, 0, 0],
         )
         .writing(
             &[&[
@@ -207,6 +221,11 @@ pub fn many_instances() -> Vec<ManyInstance> {
             ]],
             &[2, 87],
         ),
+        twice(14, [0, 0, 0, 0, 6, 114, 8, 6]).writing(&[sixteen, sixteen], &[0, 57, 0, 114]),
+        // Cut in the second search's halving, at its seam, and before it.
+        twice(12, [7, 1, 1, 0, 4, 76, 8, 4]).writing(&[sixteen, &sixteen[..1]], &[0, 57]),
+        twice(11, [7, 1, 1, 0, 4, 76, 8, 3]).writing(&[sixteen, &sixteen[..1]], &[0, 57]),
+        twice(7, [7, 1, 1, 0, 4, 76, 4, 3]).writing(&[sixteen, &sixteen[..1]], &[0, 57]),
         refused("a run not below k", &[7, 8], &[2, 1], [13, 1, 1]),
         refused("no run is chosen", &[7, 0], &[2, 1], [13, 1, 1]),
         refused("every bit", &[u64::MAX, 7], &[2, 2], [13, 0, 0]),
@@ -232,11 +251,11 @@ pub fn many_instances() -> Vec<ManyInstance> {
             ..refused("three result places", &[7, 3], &[2, 2], [14, 2, 0])
         },
         refused("a threshold but no mask", &[], &[2], [14, 0, 0]),
-        ManyInstance::new("no question", &[], &[], [0; 7]),
+        ManyInstance::new("no question", &[], &[], [0; 8]),
         ManyInstance {
             allowance: 0,
             room: [0, 0, 0],
-            ..ManyInstance::new("no question and no room", &[], &[], [0; 7])
+            ..ManyInstance::new("no question and no room", &[], &[], [0; 8])
         },
     ]
 }

@@ -5,7 +5,7 @@
 #![allow(dead_code)]
 
 use reference::testing::{accepted, answers_of, gap, hit, lay_out, refused, slices, Random, M};
-use reference::{encode, query, Outcome, Part};
+use reference::{encode, query, Outcome, Part, Probe, Probes};
 use std::collections::BTreeMap;
 
 /// What stands in a buffer before a query.
@@ -95,6 +95,23 @@ pub fn any_runs(random: &mut Random, most_runs: usize, most_numbers: usize) -> V
         .collect()
 }
 
+/// A long run and one of few numbers from the same range, in any order: a
+/// search for one of the few goes far.
+pub fn long_and_short(random: &mut Random) -> Vec<Vec<u32>> {
+    let mut run = |most: usize| {
+        let length = 1 + random.below(most);
+        let mut run: Vec<u32> = (0..length).map(|_| random.below(1_000) as u32).collect();
+        run.sort_unstable();
+        run.dedup();
+        run
+    };
+    let mut runs = vec![run(80), run(4)];
+    if random.one_in(2) {
+        runs.swap(0, 1);
+    }
+    runs
+}
+
 /// A threshold from 1 to the number of runs.
 pub fn any_threshold(random: &mut Random, runs: &[Vec<u32>]) -> u32 {
     1 + random.below(runs.len()) as u32
@@ -103,8 +120,8 @@ pub fn any_threshold(random: &mut Random, runs: &[Vec<u32>]) -> u32 {
 /// One thing that a walk does.
 #[derive(Clone, Copy, Debug, PartialEq, Eq)]
 pub enum Event {
-    /// It probes in this run.
-    Probe(usize),
+    /// It makes a probe of this kind in this run.
+    Probe(usize, Probe),
     /// It writes this part.
     Write(Part),
 }
@@ -112,6 +129,8 @@ pub enum Event {
 /// A whole walk, put down as plainly as possible.
 pub struct PlainWalk {
     pub events: Vec<Event>,
+    /// The probes of each search.
+    pub searches: Vec<Probes>,
     /// Rounds that did not end in step 1.
     pub full_rounds: usize,
 }
@@ -121,6 +140,7 @@ impl PlainWalk {
         let t = threshold as usize;
         let mut walk = PlainWalk {
             events: Vec::new(),
+            searches: Vec::new(),
             full_rounds: 0,
         };
         // Each run's numbers that are not done with.
@@ -143,8 +163,10 @@ impl PlainWalk {
             for (i, run) in left.iter_mut().enumerate() {
                 if run.first().is_some_and(|&x| x < v) {
                     let passed = run.iter().filter(|&&x| x < v).count();
-                    let probes = probes_of_search(passed, run.len());
-                    walk.events.extend(vec![Event::Probe(i); probes]);
+                    let kinds = probes_of_search(passed, run.len());
+                    walk.searches.push(count(kinds.iter().copied()));
+                    let events = kinds.iter().map(|&kind| Event::Probe(i, kind));
+                    walk.events.extend(events);
                     *run = &run[passed..];
                 }
             }
@@ -168,18 +190,30 @@ impl PlainWalk {
     pub fn parts(&self) -> Vec<Part> {
         let part = |event: &Event| match event {
             Event::Write(part) => Some(*part),
-            Event::Probe(_) => None,
+            Event::Probe(..) => None,
         };
         self.events.iter().filter_map(part).collect()
     }
 
-    pub fn probes_in(&self, run: usize) -> u64 {
-        let same = |event: &&Event| **event == Event::Probe(run);
-        self.events.iter().filter(same).count() as u64
+    pub fn probes_in(&self, run: usize) -> Probes {
+        count(self.events.iter().filter_map(|&event| match event {
+            Event::Probe(i, kind) if i == run => Some(kind),
+            _ => None,
+        }))
     }
 
-    pub fn probes(&self) -> u64 {
-        (self.events.len() - self.parts().len()) as u64
+    pub fn probes(&self) -> Probes {
+        count(self.events.iter().filter_map(|&event| match event {
+            Event::Probe(_, kind) => Some(kind),
+            Event::Write(_) => None,
+        }))
+    }
+
+    /// How many searches an allowance can end in the doubling, at the seam and
+    /// in the halving.
+    pub fn long_searches(&self) -> usize {
+        let is_long = |search: &&Probes| search.doublings >= 2 && search.halvings >= 2;
+        self.searches.iter().filter(is_long).count()
     }
 
     /// What a query returns for this walk, with the answers and the
@@ -210,7 +244,8 @@ pub struct Limited {
     byte_room: usize,
     pub answers: Vec<u32>,
     pub parts: Vec<Part>,
-    pub probes: u64,
+    /// Doublings and halvings.
+    pub probes: [u64; 2],
 }
 
 impl Limited {
@@ -221,7 +256,7 @@ impl Limited {
             byte_room,
             answers: Vec::new(),
             parts: Vec::new(),
-            probes: 0,
+            probes: [0; 2],
         }
     }
 
@@ -229,8 +264,11 @@ impl Limited {
     pub fn go_on(&mut self, events: &[Event]) -> Option<u8> {
         for event in events {
             match *event {
-                Event::Probe(_) if self.probes == u64::from(self.allowance) => return Some(7),
-                Event::Probe(_) => self.probes += 1,
+                Event::Probe(..) if self.probes.iter().sum::<u64>() == self.allowance.into() => {
+                    return Some(7);
+                }
+                Event::Probe(_, Probe::Doubling) => self.probes[0] += 1,
+                Event::Probe(_, Probe::Halving) => self.probes[1] += 1,
                 Event::Write(part) => {
                     let bytes = encode(&self.parts).len() + encode(&[part]).len();
                     let value = answers_of(&[part]);
@@ -256,13 +294,23 @@ fn mask(left: &[&[u32]], property: impl Fn(Option<u32>) -> bool) -> u64 {
         .sum()
 }
 
+/// How many there are of each kind.
+fn count(kinds: impl Iterator<Item = Probe>) -> Probes {
+    let (doublings, halvings): (Vec<Probe>, Vec<Probe>) =
+        kinds.partition(|&kind| kind == Probe::Doubling);
+    Probes {
+        doublings: doublings.len() as u64,
+        halvings: halvings.len() as u64,
+    }
+}
+
 /// The probes of a search from place 0 of a run of `n` numbers, of which the
 /// first `passed` are below the number searched for.
-fn probes_of_search(passed: usize, n: usize) -> usize {
-    let mut probes = 0;
+fn probes_of_search(passed: usize, n: usize) -> Vec<Probe> {
+    let mut probes = Vec::new();
     let mut step = 1;
     while step < n {
-        probes += 1;
+        probes.push(Probe::Doubling);
         if step >= passed {
             break;
         }
@@ -271,7 +319,7 @@ fn probes_of_search(passed: usize, n: usize) -> usize {
     let mut low = step / 2;
     let mut high = step.min(n);
     while high > low + 1 {
-        probes += 1;
+        probes.push(Probe::Halving);
         let middle = (low + high) / 2;
         if middle < passed {
             low = middle;
