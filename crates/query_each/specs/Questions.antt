@@ -7,15 +7,14 @@ use Rattle.model.specs.Many.{ManyCheck, all-passed, refusal-in, AnsweredMany}
 use Rattle.model.specs.Refusals.{passed, chosenChecks}
 use Rattle.model.specs.Runs.{runs}
 use Rattle.query_progress.specs.Calls.{callEnded, callOnward}
-use Rattle.walk_progress.specs.Progress.{Counts}
-use Rattle.walk_tally.specs.Tally.{halvedIn, undoubled}
+use Rattle.walk_progress.specs.Progress.{Counts, countsWith}
+use Rattle.walk_tally.specs.Tally.{undoubled}
 use Rattle.query_each.specs.declared.Finish.{Finish}
 use Rattle.query_each.specs.declared.Totals.{Totals}
 
 -- the counts of a call
 unfoldable pub countsSo : ℕ → Totals → Counts
-countsSo allowance w =
-    record { answers = w .answers; parts = w .parts; bytes = w .bytes; doublings = allowance - undoubled (w .tally); halvings = halvedIn (w .tally) }
+countsSo allowance w = countsWith allowance (w .answers) (w .parts) (w .bytes) (w .tally)
 
 -- what is written fits the buffers, and the allowance is one of 32 bits
 pub record Fitted (A B : List ℕ) (w : Totals) : Type 0 where

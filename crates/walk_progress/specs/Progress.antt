@@ -7,6 +7,7 @@ use Rattle.model.specs.Certificate.{answersOf, encode}
 use Rattle.model.specs.Compared.{partsOf, doublingsOf, halvingsOf}
 use Rattle.model.specs.Refusals.{Room, Ended, cut, Outcome, accepted, refused, Answered}
 use Rattle.model.specs.Walk.{Event}
+use Rattle.walk_tally.specs.Tally.{halvedIn, undoubled}
 
 -- what is written and made so far
 pub record Counts : Type 0 where
@@ -18,6 +19,11 @@ pub record Counts : Type 0 where
 
 unfoldable pub noCounts : Counts
 noCounts = record { answers = 0; parts = 0; bytes = 0; doublings = 0; halvings = 0 }
+
+-- the counts where a tally tells how the probes of an allowance are spent
+abbrev pub countsWith : ℕ → ℕ → ℕ → ℕ → ℕ → Counts
+countsWith allowance answers parts bytes tally =
+    record { answers = answers; parts = parts; bytes = bytes; doublings = allowance - undoubled tally; halvings = halvedIn tally }
 
 -- the probes of both kinds
 unfoldable pub probesSo : Counts → ℕ

@@ -6,9 +6,9 @@ use lib.ListN.{length}
 use Rattle.model.specs.Compared.{wholeWalk}
 use Rattle.model.specs.Refusals.{passed, chosenChecks}
 use Rattle.model.specs.Runs.{runs, chosen}
-use Rattle.walk_progress.specs.Progress.{Counts, onward}
+use Rattle.walk_progress.specs.Progress.{Counts, countsWith, onward}
 use Rattle.walk_rounds.specs.declared.End.{End}
-use Rattle.walk_tally.specs.Tally.{halvedIn, undoubled}
+use Rattle.walk_tally.specs.Tally.{undoubled}
 use Rattle.walk_write.specs.Writes.{endsWith}
 
 -- a question that passed the first checks, buffers in which so many answers and bytes stand, and the tally of an allowance of 32 bits
@@ -26,8 +26,7 @@ pub record Begins (numbers ends : List ℕ) (m t : ℕ) (positions keys answers 
 
 -- the counts where it begins: its parts are counted from 0
 unfoldable pub countsFrom : ℕ → ℕ → ℕ → ℕ → Counts
-countsFrom allowance answered written tally =
-    record { answers = answered; parts = 0; bytes = written; doublings = allowance - undoubled tally; halvings = halvedIn tally }
+countsFrom allowance answered written tally = countsWith allowance answered 0 written tally
 
 -- The walk ended so, and with these buffers, as the question does, of whatever allowance the tally was.
 pub record ComesTo (numbers ends : List ℕ) (m t answered written tally : ℕ) (answers certificate answers′ certificate′ : List ℕ) (r : End) : Type 0 where

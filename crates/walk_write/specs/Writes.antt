@@ -8,8 +8,7 @@ use lib.ListN.{length, drop}
 use Rattle.model.specs.Certificate.{answer, gap}
 use Rattle.model.specs.Walk.{Event, wrote}
 use Rattle.walk_keys.specs.Row.{noKey, Labels, labelSum}
-use Rattle.walk_progress.specs.Progress.{Counts, ended, onward}
-use Rattle.walk_tally.specs.Tally.{halvedIn, undoubled}
+use Rattle.walk_progress.specs.Progress.{Counts, countsWith, ended, onward}
 use Rattle.walk_write.specs.declared.Answered.{Answered}
 use Rattle.walk_write.specs.declared.Answered.the-variants as answered′
 use Rattle.walk_write.specs.declared.State.{State}
@@ -21,8 +20,7 @@ use Rattle.model.specs.Runs.{lastBin}
 
 -- the counts of a state
 unfoldable pub countsOf : ℕ → State → Counts
-countsOf allowance w =
-    record { answers = w .answers; parts = w .parts; bytes = w .bytes; doublings = allowance - undoubled (w .tally); halvings = halvedIn (w .tally) }
+countsOf allowance w = countsWith allowance (w .answers) (w .parts) (w .bytes) (w .tally)
 
 -- what a question comes to from a state on
 unfoldable pub goesOn : ℕ → State → List ℕ → List ℕ → List Event → Rattle.model.specs.Refusals.Answered

@@ -5,9 +5,8 @@ use mathlib.Core.Path.{_≡_, refl, ap, _∙_}
 use native.Mathlib.Omega.{arith}
 use Rattle.model.specs.Refusals as model
 use Rattle.walk_progress.specs.Progress.{Counts, outcomeAt}
-use Rattle.walk_tally.specs.Tally.{halvedIn, undoubled}
+use Rattle.walk_progress.proofs.Progress.{counts-same}
 use Rattle.walk_write.specs.Writes.{countsOf}
-use Rattle.walk_write.specs.declared.State.{State}
 use borrow.Author.Needs.{needs}
 use Rattle.query.proofs.outcome_of.Statement.{statement}
 use Rattle.query.proofs.outcome_of.Tie as tie
@@ -22,12 +21,6 @@ unfolding outcomeAt
 none-at zero c h = refl
 none-at (suc n) c h = absurd (omega arith)
 
--- the counts returned are those of the state
-counted : (allowance : ℕ) (w : State) (d h : ℕ) → d ≡ allowance - undoubled (w .tally) → h ≡ halvedIn (w .tally)
-    → record { answers = w .answers; parts = w .parts; bytes = w .bytes; doublings = d; halvings = h } ≡ countsOf allowance w
-unfolding countsOf
-counted allowance w d h e f i = record { answers = w .answers; parts = w .parts; bytes = w .bytes; doublings = e i; halvings = f i }
-
 doublings-requires : tie.Need-doublings-requires
 doublings-requires c κs = search needs
 
@@ -35,6 +28,7 @@ halvings-requires : tie.Need-halvings-requires
 halvings-requires c κs = search needs
 
 returns : tie.Need-returns
+unfolding countsOf
 returns c =
     let h = c .before .before in
     let d = h .before in
@@ -42,9 +36,10 @@ returns c =
     let w = a .end .at in
     none-at (a .end .number)
     (record { answers = w .answers; parts = w .parts; bytes = w .bytes; doublings = d .doublings .result; halvings = h .halvings .result }) (c .if1 .taken)
-    ∙ ap (outcomeAt (a .end .number)) (counted (a .allowance) w _ _ (d .doublings .ensures) (h .halvings .ensures))
+    ∙ ap (outcomeAt (a .end .number)) (counts-same refl refl refl (d .doublings .ensures) (h .halvings .ensures))
 
 returns-2 : tie.Need-returns-2
+unfolding countsOf
 returns-2 c =
     let h = c .before .before in
     let d = h .before in
@@ -52,7 +47,7 @@ returns-2 c =
     let w = a .end .at in
     not-none (a .end .number)
     (record { answers = w .answers; parts = w .parts; bytes = w .bytes; doublings = d .doublings .result; halvings = h .halvings .result }) (c .if1 .left)
-    ∙ ap (outcomeAt (a .end .number)) (counted (a .allowance) w _ _ (d .doublings .ensures) (h .halvings .ensures))
+    ∙ ap (outcomeAt (a .end .number)) (counts-same refl refl refl (d .doublings .ensures) (h .halvings .ensures))
 
 pub outcome-of-spec : {M : Type 1} → statement M
 outcome-of-spec = tie.close (tie.spec doublings-requires halvings-requires returns returns-2)
