@@ -1,11 +1,11 @@
 #!/usr/bin/env bash
-# Looks, after `rt ci`, at why each must-fail edit was refused. If the first error is that a proof names a fact that the edited code no longer asks for,
-# the edit only made the proof unfit for the code, and shows nothing. Each edit begins with a line that states the wrong behaviour.
+# Looks, after `rt ci`, at why each must-fail edit was refused. If the first error is that a proof names a fact that the edited code no longer asks for, or that
+# the edit itself uses a name which is not in scope, it shows nothing. Each edit begins with a line that states the wrong behaviour.
 set -euo pipefail
 cd "$(dirname "$0")/.."
 shopt -s nullglob
 
-unfit='has no `Need-[^`]*` that can be named from here'
+unfit='has no `Need-[^`]*` that can be named from here\|is not in scope'
 edits=0 faults=0
 
 fault() { # EDIT TEXT
