@@ -1,5 +1,5 @@
 -- The walk of a question over chosen runs from its beginning to its end, in buffers that hold what the questions before it wrote. Definitions only.
-use Prim.Native.Nat.{ℕ, _-_, _≤_, _<_}
+use Prim.Native.Nat.{ℕ, _≤_, _<_}
 use mathlib.Core.List.{List}
 use mathlib.Core.Path.{_≡_}
 use lib.ListN.{length}
