@@ -1,5 +1,5 @@
 // How a walk's probes are spent, in one 64-bit number: the probes left in its lower half, the halving probes made in its upper half. The doubling probes made are
-// what is then missing of the allowance. (As two numbers, carried through every round, they took 1 to 2 % more instructions.)
+// what is then missing of the allowance. (As two numbers, carried through every round, they took up to 3.9 % more instructions.)
 ghost use mathlib.Core.Path.{_≡_};
 ghost use Prim.Native.Nat.{_+_, _-_, _≤_, _<_};
 ghost use Rattle.walk_tally.specs.Tally.{leftIn, halvedIn, undoubled};
