@@ -1,10 +1,12 @@
 -- One run searched, with a tally of probes. Definitions only.
-use Prim.Native.Nat.{ℕ, _+_, _-_, _≤_, _<_}
+use Prim.Native.Nat.{ℕ, _+_, _≤_}
 use mathlib.Core.List.{List}
 use mathlib.Core.Path.{_≡_}
 use lib.ListN.{getD, set}
 use Rattle.model.specs.Runs.{slice}
 use Rattle.model.specs.Walk.{seek}
+use Rattle.walk_search.specs.Limited.{Seeks}
+use Rattle.walk_search.specs.declared.Sought.the-variants.{Spent}
 use Rattle.walk_tally.specs.Tally.{leftIn, halvedIn}
 use Rattle.walk_seek.specs.declared.Probed.{Probed}
 use Rattle.walk_seek.specs.declared.Probed.the-variants.{Left, NoneLeft}
@@ -18,5 +20,4 @@ SearchedRun numbers ends positions run v tally positions′ (Left after) =
     (leftIn after + (f .doublings + f .halvings) ≡ leftIn tally) × (halvedIn after ≡ halvedIn tally + f .halvings)
     × (positions′ ≡ set positions run (p + f .place)) × (p + f .place ≤ e)
 SearchedRun numbers ends positions run v tally positions′ (NoneLeft after) =
-    let f = seek v (slice numbers (getD positions run 0) (getD ends run 0)) in
-    (leftIn tally < f .doublings + f .halvings) × (leftIn after ≡ 0) × (halvedIn after ≡ halvedIn tally + (leftIn tally - f .doublings))
+    Seeks tally (seek v (slice numbers (getD positions run 0) (getD ends run 0))) (Spent after)
