@@ -1,4 +1,5 @@
--- The part of a rising list between two numbers stands from the rank of the first on and before the rank of the number after the last. Assumes nothing.
+-- The part of a rising list between two numbers stands from the rank of the first on, or of the first bin where that is greater, and before the rank of the
+-- number after the last. Assumes nothing.
 use Prim.Native.Nat.{ℕ, suc, _+_, _-_, _≤_, _<_}
 use borrow.Author.Tests.{lt-ltb, le-ltb, le-leb, lt-leb}
 use lib.ListN.{take, drop}
@@ -8,15 +9,18 @@ use mathlib.Core.Option.{none, some}
 use mathlib.Core.Path.{_≡_, refl, sym, ap, _∙_}
 use native.Mathlib.Omega.{arith}
 use Rattle.model.specs.Rows.{Rise, rise-nil, rise-cons, rank}
-use Rattle.model.proofs.From.{rank-nil, rank-pass, rank-stop, rank-le}
+use Rattle.arith.proofs.Order.{greater-below, greater-from}
+use Rattle.arith.specs.Order.{greater}
+use Rattle.model.proofs.From.{from-nil, from-pass, from-stop, rank-nil, rank-pass, rank-stop, rank-le, rise-from}
 use Rattle.model.proofs.Tests.{lt-or-le}
+use Rattle.model.proofs.Unmapped.{first-is}
 use Rattle.model.specs.Between.{within, between}
-use Rattle.model.specs.Runs.{unrisen}
+use Rattle.model.specs.Runs.{firstBin, from, unrisen}
 use Rattle.between.specs.Places.{Spans}
 
 -- ---- the part between two numbers
 
-module _ (first last : ℕ) (h : first ≤ last) where
+module _ (first last : ℕ) (h : first ≤ last + 1) where
   within-below : (x : ℕ) (s : List ℕ) → x < first → within first last (x ∷ s) ≡ within first last s
   unfolding within
   within-below x s l = rw (lt-leb first x l, within)
@@ -66,6 +70,41 @@ module _ (first last : ℕ) (h : first ≤ last) where
       rw (rank-stop first x s q, e) (sym (within-front (rise-cons q u r) (omega arith))))
       (lt-or-le x first)
 
+-- numbers below the first may be passed over before
+within-passed : (first last v : ℕ) (s : List ℕ) → first ≤ last + 1 → v ≤ first → within first last (from v s) ≡ within first last s
+within-passed first last v [] h l = ap (within first last) (from-nil v)
+within-passed first last v (x ∷ s) h l =
+    ⊎-elim
+    (λ (q : x < v). ap (within first last) (from-pass v x s q) ∙ (within-passed first last v s h l ∙ sym (within-below first last h x s (omega arith))))
+    (λ (q : v ≤ x). ap (within first last) (from-stop v x s q))
+    (lt-or-le x v)
+
+-- where no number is below b, the part from a number not above b on is the part from b on
+within-rise : (first last b : ℕ) {a : ℕ} {s : List ℕ} → first ≤ b → b ≤ last + 1 → Rise a s → b ≤ a → within first last s ≡ within b last s
+within-rise first last b l h rise-nil k = within-nil first last (omega arith) ∙ sym (within-nil b last h)
+within-rise first last b l h (rise-cons {x = x} {s = s} m u r) k =
+    let rest = within-rise first last b l h r (omega arith) in
+    ⊎-elim
+    (λ (q : last < x).
+    within-above first last (omega arith) x s q ∙ (rest ∙ sym (within-above b last h x s q)))
+    (λ (q : x ≤ last).
+    within-in first last (omega arith) x s (omega arith) q ∙ (ap (λ (t : List ℕ). x ∷ t) rest ∙ sym (within-in b last h x s (omega arith) q)))
+    (lt-or-le last x)
+
+-- the bins of a rising list from the first to the last are its numbers from the greater of the first and the first bin on
+within-bins : (first last : ℕ) {a : ℕ} (s : List ℕ) → Rise a s → first ≤ last
+    → (greater first firstBin ≤ last + 1) × (within first last (from firstBin s) ≡ within (greater first firstBin) last s)
+within-bins first last s r h =
+    let f = first-is in
+    ⊎-elim
+    (λ (q : first < firstBin).
+    rw (greater-below first firstBin q)
+    (omega arith,
+    within-rise first last firstBin (omega arith) (omega arith) (rise-from firstBin s r) (omega arith)
+    ∙ within-passed firstBin last firstBin s (omega arith) (omega arith)))
+    (λ (q : firstBin ≤ first). rw (greater-from first firstBin q) (omega arith, within-passed first last firstBin s (omega arith) q))
+    (lt-or-le first firstBin)
+
 -- a rank grows with its number
 pub rank-mono : (v w : ℕ) (s : List ℕ) → v ≤ w → rank v s ≤ rank w s
 rank-mono v w [] h = rw (rank-nil v) (omega arith)
@@ -84,16 +123,18 @@ module _ (first last : ℕ) (s : List ℕ) where
   unfolding between
   between-unrisen i h e = rw (le-ltb last first h, e, between)
 
-  between-risen : first ≤ last → unrisen 0 s ≡ none → between first last s ≡ within first last s
+  between-risen : first ≤ last → unrisen 0 s ≡ none → between first last s ≡ within first last (from firstBin s)
   unfolding between
   between-risen h e = rw (le-ltb last first h, e, between)
 
   pub spans-none : between first last s ≡ [] → Spans first last s (record { start = 0; end = 0 })
   spans-none e = record { ordered = omega arith; inside = omega arith; part = sym e }
 
-  pub spans-ranks : first ≤ last → unrisen 0 s ≡ none → Rise 0 s → Spans first last s (record { start = rank first s; end = rank (last + 1) s })
-  spans-ranks h e r = record {
-    ordered = rank-mono first (last + 1) s (omega arith);
-    inside = rank-le (last + 1) s;
-    part = within-part first last h r ∙ sym (between-risen h e);
-  }
+  pub spans-ranks : first ≤ last → unrisen 0 s ≡ none → Rise 0 s → Spans first last s (record { start = rank (greater first firstBin) s; end = rank (last + 1) s })
+  spans-ranks h e r =
+      let b = within-bins first last s r h in
+      record {
+        ordered = rank-mono (greater first firstBin) (last + 1) s (b .0);
+        inside = rank-le (last + 1) s;
+        part = within-part (greater first firstBin) last (b .0) r ∙ (sym (b .1) ∙ sym (between-risen h e));
+      }

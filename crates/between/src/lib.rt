@@ -29,8 +29,8 @@ fn first_at_least(list: &[u32], v: u64) -> usize
     lo
 }
 
-// Where the bins from `first` to `last` stand: one pass over the list, then two searches by halving. The part is empty where `first` is above `last` or
-// the list does not rise.
+// Where the bins from `first` to `last` stand: one pass over the list, then two searches by halving. A 0 at the list's start is no bin, so it never stands in
+// the part. The part is empty where `first` is above `last` or the list does not rise.
 pub fn places(list: &[u32], first: u32, last: u32) -> Span
     ensures { λ r. ⌜ Spans first last (now (list .entry)) r ⌝ }
 {
@@ -38,7 +38,8 @@ pub fn places(list: &[u32], first: u32, last: u32) -> Span
         return Span { start: 0, end: 0 };
     }
     if let Found::Nothing = rising::first_unrisen(list, 0) {
-        let start = first_at_least(list, arith::u64_of_u32(first));
+        let least = arith::greater(arith::u64_of_u32(first), limits::FIRST_BIN as u64);
+        let start = first_at_least(list, least);
         let end = first_at_least(list, arith::u64_of_u32(last) + 1);
         return Span { start, end };
     }

@@ -27,16 +27,23 @@ fn main() {
     print_part(&list, 6, 8);
     print_part(&list, 13, 4294967295);
     // the first and the last bin
-    let ends = [0u32, 7, 4294967295];
-    print_part(&ends, 0, 0);
+    let ends = [1u32, 7, 4294967295];
+    print_part(&ends, 0, 1);
     print_part(&ends, 4294967295, 4294967295);
     print_part(&ends, 0, 4294967295);
-    print_part(&ends, 1, 4294967294);
+    print_part(&ends, 2, 4294967294);
+    // a 0 at the start is the unmapped mark and never shown
+    let marked = [0u32, 3, 5];
+    print_part(&marked, 0, 3);
+    print_part(&marked, 0, 0);
+    print_part(&marked, 4, 4294967295);
     // lists that do not rise
     let falling = [2u32, 9, 5, 12];
     print_part(&falling, 2, 12);
     let equal = [3u32, 3];
     print_part(&equal, 3, 3);
+    let marked_twice = [0u32, 0, 5];
+    print_part(&marked_twice, 0, 5);
     // the empty list
     let nothing = [0u32; 0];
     print_part(&nothing, 0, 4294967295);

@@ -1,24 +1,26 @@
--- The mask of all runs names each of them. Where the first checks pass, each end is at most the number of the numbers, so a run is as long as its ends say: the
--- sum from the ends is the sum of the bounds over the runs, over all or over those that a mask chooses, and the call returns it. Assumes nothing.
+-- The mask of all runs names each of them. A run has no more bins than numbers, and no more of these than its ends say. So where the first checks pass the call
+-- returns a sum that is not below the sum of the bounds over the runs, over all or over those that a mask chooses. Assumes nothing.
 use Prim.Native.Nat.{ℕ, suc, _+_, _-_, _*_, _/_, _%_, _^_, _≤_, _<_}
 use borrow.Author.Tests.{le-ltb, eq-eqb}
-use lib.ListN.{length, take, drop, length-take, length-drop}
+use lib.ListN.{length, drop, length-take}
 use lib.Pow.{high, ones-lt, ones-split}
 use mathlib.Core.Bool.{true, false}
 use mathlib.Core.List.{List, [], _∷_}
 use mathlib.Core.Logic.{⊎-elim}
-use mathlib.Core.Option.{none}
 use mathlib.Core.Path.{_≡_, refl, sym, ap, _∙_}
+use native.Mathlib.Nat.{mul-le-mul-left}
 use native.Mathlib.Omega.{arith}
 use Rattle.bound.specs.declared.Bound.the-variants.{Sum}
 use Rattle.model.specs.Compared.{boundOf, boundIn, bound}
 use Rattle.bound.specs.Bound.{sumFrom, every, named, orderChecks, endChecks, chosenEndChecks, boundBy, probeBound, probeBoundChosen}
 use Rattle.model.proofs.Chosen.{chosen-nil, chosen-in, chosen-out}
-use Rattle.model.proofs.FirstChecks.{Listed, then-first, then-second, lists-passed, not-fallen, end-last, every-run}
+use Rattle.model.proofs.Digits.{digits-mono}
+use Rattle.model.proofs.FirstChecks.{Listed, then-first, then-second, lists-passed, every-run}
+use Rattle.model.proofs.From.{from-length}
 use Rattle.model.proofs.Masks.{bit-of}
 use Rattle.model.proofs.Tests.{both}
-use Rattle.model.specs.Refusals.{passed, _then_, refuseIf, refuseAt, fallsFrom, lastEnd, countCheck, maskCheck, firstChecks, chosenChecks}
-use Rattle.model.specs.Runs.{Run, mostNumbers, total, one, bit, names, slice, runsFrom, runs, chosen}
+use Rattle.model.specs.Refusals.{passed, _then_, refuseIf, refuseAt, lastEnd, countCheck, maskCheck, firstChecks, chosenChecks}
+use Rattle.model.specs.Runs.{Run, firstBin, mostNumbers, slice, from, runsFrom, runs, total, one, bit, names, chosen}
 
 -- ---- all runs
 
@@ -51,23 +53,38 @@ bound-cons m d r rs =
     (λ (q : names m r ≡ false). rw (chosen-out m r rs q, q) (omega arith))
     (both (names m r))
 
-sum-from : (m d i a : ℕ) (numbers ends : List ℕ) → fallsFrom a i ends ≡ none → lastEnd a ends ≤ length numbers
-    → sumFrom (named m) d i a ends ≡ bound d (chosen m (runsFrom i a numbers ends))
-unfolding sumFrom bound total runsFrom lastEnd names boundIn
-sum-from m d i a numbers [] h l = sym (ap (bound d) (chosen-nil m))
-sum-from m d i a numbers (e ∷ ends) h l =
-    let n = not-fallen a i e ends h in
-    let s = sum-from m d (suc i) e numbers ends (n .1) l in
-    let z = end-last e (suc i) ends (n .1) in
-    let k : length (take (e - a) (drop a numbers)) ≡ e - a = simp (length-take, length-drop) (omega (arith, n .0)) in
-    sym (bound-cons m d (record { label = i; bins = slice numbers a e }) (runsFrom (suc i) e numbers ends) ∙ rw (k, s))
+bound-mono : (d : ℕ) {m n : ℕ} → m ≤ n → boundOf d m ≤ boundOf d n
+unfolding boundOf
+bound-mono d h = mul-le-mul-left (2 * d) (digits-mono h)
 
-pub sum-chosen : (m d : ℕ) (numbers ends : List ℕ) → Listed numbers ends → sumFrom (named m) d 0 0 ends ≡ bound d (chosen m (runs numbers ends))
+-- its bins are at most as many as the numbers between its ends
+bins-few : (a e : ℕ) (numbers : List ℕ) → length (from firstBin (slice numbers a e)) ≤ e - a
+bins-few a e numbers =
+    let k = from-length firstBin (slice numbers a e) in
+    let n = length-take (e - a) (drop a numbers) in
+    omega arith
+
+sum-from : (m d i a : ℕ) (numbers ends : List ℕ) → bound d (chosen m (runsFrom i a numbers ends)) ≤ sumFrom (named m) d i a ends
+unfolding sumFrom bound total runsFrom names boundIn
+sum-from m d i a numbers [] = let e = ap (bound d) (chosen-nil m) in omega arith
+sum-from m d i a numbers (e ∷ ends) =
+    let s = sum-from m d (suc i) e numbers ends in
+    let r : Run = record { label = i; bins = from firstBin (slice numbers a e) } in
+    let c = bound-cons m d r (runsFrom (suc i) e numbers ends) in
+    let k = mul-le-mul-left (one (named m i)) (bound-mono d (bins-few a e numbers)) in
+    omega arith
+
+-- The sum that is made from the ends is never smaller than the bound over the runs with these ends.
+pub sum-chosen : (m d : ℕ) (numbers ends : List ℕ) → bound d (chosen m (runs numbers ends)) ≤ sumFrom (named m) d 0 0 ends
 unfolding runs
-sum-chosen m d numbers ends p = sum-from m d 0 0 numbers ends (p .ends-rise) (let e = p .ends-last in omega arith)
+sum-chosen m d numbers ends = sum-from m d 0 0 numbers ends
 
-pub sum-bound : (d : ℕ) (numbers ends : List ℕ) → Listed numbers ends → sumFrom every d 0 0 ends ≡ bound d (runs numbers ends)
-sum-bound d numbers ends p = sym (sum-every d ends) ∙ (sum-chosen (2 ^ length ends - 1) d numbers ends p ∙ ap (bound d) (every-run numbers ends))
+pub sum-bound : (d : ℕ) (numbers ends : List ℕ) → bound d (runs numbers ends) ≤ sumFrom every d 0 0 ends
+sum-bound d numbers ends =
+    let s = sum-chosen (2 ^ length ends - 1) d numbers ends in
+    let c = ap (bound d) (every-run numbers ends) in
+    let e = sum-every d ends in
+    omega arith
 
 order-passed : (numbers ends : List ℕ) → Listed numbers ends → orderChecks ends ≡ passed
 unfolding orderChecks _then_ refuseIf refuseAt
@@ -89,16 +106,17 @@ chosen-pieces m t numbers ends h =
     let r = then-second _ _ h in
     (then-first _ _ h, then-first _ _ r, lists-passed numbers ends (then-second _ _ (then-second _ _ r)))
 
+-- For lists that pass the first checks the call returns a sum, and this is never smaller than the bound over the runs, which counts bins.
 pub bound-passed : (d t : ℕ) (numbers ends : List ℕ) → firstChecks numbers ends t ≡ passed
-    → probeBound ends d ≡ Sum (bound d (runs numbers ends))
+    → (sum : ℕ) × (probeBound ends d ≡ Sum sum) × (bound d (runs numbers ends) ≤ sum)
 unfolding probeBound endChecks boundBy _then_
 bound-passed d t numbers ends h =
     let p = pieces t numbers ends h in
-    rw (p .0, order-passed numbers ends (p .1), sum-bound d numbers ends (p .1))
+    (sumFrom every d 0 0 ends, rw (p .0, order-passed numbers ends (p .1)), sum-bound d numbers ends)
 
 pub chosen-bound-passed : (d m t : ℕ) (numbers ends : List ℕ) → chosenChecks numbers ends m t ≡ passed
-    → probeBoundChosen ends m d ≡ Sum (bound d (chosen m (runs numbers ends)))
+    → (sum : ℕ) × (probeBoundChosen ends m d ≡ Sum sum) × (bound d (chosen m (runs numbers ends)) ≤ sum)
 unfolding probeBoundChosen chosenEndChecks boundBy _then_
 chosen-bound-passed d m t numbers ends h =
     let p = chosen-pieces m t numbers ends h in
-    rw (p .0, p .1, order-passed numbers ends (p .2), sum-chosen m d numbers ends (p .2))
+    (sumFrom (named m) d 0 0 ends, rw (p .0, p .1, order-passed numbers ends (p .2)), sum-chosen m d numbers ends)

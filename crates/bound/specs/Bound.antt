@@ -1,4 +1,5 @@
--- The bound on probes, from the ends of the runs alone, and its refusals. Definitions only.
+-- The bound on probes, from the ends of the runs alone, and its refusals. A 0 at the start of a run cannot be seen from its ends and is counted with its
+-- numbers. Definitions only.
 use Prim.Native.Nat.{ℕ, suc, _+_, _-_, _*_}
 use mathlib.Core.Bool.{Bool, true}
 use mathlib.Core.List.{List, [], _∷_}

@@ -7,11 +7,10 @@ use mathlib.Core.Logic.{⊎-elim, _≢_}
 use mathlib.Core.Path.{_≡_, refl, sym, ap, _∙_, subst}
 use native.Mathlib.Numerals.{add-one}
 use native.Mathlib.Omega.{arith}
-use Rattle.model.specs.Rows.{from}
 use Rattle.model.proofs.From.{rise-from, from-pass, from-stop, from-nil, head-cons, head-nil, head-least, head-bin}
 use Rattle.model.proofs.Slices.{part-cons, part-empty}
 use Rattle.model.proofs.Tests.{lt-or-le, eq-or-ne}
-use Rattle.model.specs.Runs.{pastBin, slice}
+use Rattle.model.specs.Runs.{pastBin, slice, from}
 use Rattle.model.specs.Walk.{headOf}
 use Rattle.check_cursor.specs.Cursors.{binsOf, headIn, placeOf, binOf, Cursors}
 

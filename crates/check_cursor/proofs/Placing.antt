@@ -2,27 +2,26 @@
 use Prim.Native.Nat.{ℕ, zero, suc, _+_, _≤_, _<_}
 use lib.ListN.{length, getD, set, length-set}
 use lib.Seq.{getD-set-same, getD-set-other}
-use mathlib.Core.List.{List, [], _∷_, List·Memᴰ, List·Memᴰ·head, List·Memᴰ·tail}
+use mathlib.Core.List.{List}
 use mathlib.Core.Logic.{⊎-elim, _≢_}
 use mathlib.Core.Path.{_≡_, refl, sym, ap, _∙_, subst}
 use native.Mathlib.Numerals.{add-one}
 use native.Mathlib.Omega.{arith}
 use Rattle.first_checks.proofs.Laws.{Ordered, next-end, next-ordered}
-use Rattle.model.proofs.FirstChecks.{Listed, runs-rising}
-use Rattle.model.specs.Rows.{from}
-use Rattle.model.proofs.From.{head-bin}
+use Rattle.model.proofs.FirstChecks.{Listed, lists-rise}
+use Rattle.model.proofs.From.{rise-from, from-from, head-bin}
 use Rattle.model.proofs.Tests.{eq-or-ne}
 use Rattle.model.specs.Demands.{Fits}
-use Rattle.model.specs.Runs.{pastBin, runs, runsFrom, slice, mostRuns}
+use Rattle.model.specs.Runs.{firstBin, pastBin, slice, from, mostRuns}
 use Rattle.model.specs.Walk.{headOf}
-use Rattle.check_cursor.specs.Cursors.{startOf, binsOf, cursorPlaces, placeOf, binOf, Cursors, Begins}
+use Rattle.check_cursor.specs.Cursors.{startOf, lentOf, cursorPlaces, placeOf, binOf, Cursors, Begins}
 
 -- the cursors of the runs before i are placed
 pub record Placed (numbers ends cursors : List ℕ) (start i : ℕ) : Type 0 where
   pub lengths : length cursors ≡ length ends
   pub next : start ≡ startOf ends i
   pub places : (j : ℕ) → j < i → placeOf (getD cursors j 0) ≡ startOf ends j
-  pub firsts : (j : ℕ) → j < i → binOf (getD cursors j 0) ≡ headOf (binsOf numbers ends j)
+  pub firsts : (j : ℕ) → j < i → binOf (getD cursors j 0) ≡ headOf (lentOf numbers ends j)
 
 pub placed-none : (numbers ends cursors : List ℕ) → length cursors ≡ length ends → Placed numbers ends cursors 0 0
 placed-none numbers ends cursors e = record { lengths = e; next = refl; places = λ j h. absurd (omega arith); firsts = λ j h. absurd (omega arith) }
@@ -37,7 +36,7 @@ module _ {numbers ends cursors₀ cursors : List ℕ} {start i : ℕ} (b : Begin
         (omega arith, omega arith)
 
     module _ {x : ℕ} (ex : x ≡ headOf (slice numbers start end)) where
-      first-is : x ≡ headOf (binsOf numbers ends i)
+      first-is : x ≡ headOf (lentOf numbers ends i)
       first-is = ex ∙ (λ s. headOf (slice numbers (p .next s) (ee s)))
 
       pub start-fits : (x ≤ pastBin) × (start < cursorPlaces)
@@ -64,21 +63,22 @@ module _ {numbers ends cursors₀ cursors : List ℕ} {start i : ℕ} (b : Begin
             firsts = λ j h.
                 ⊎-elim
                 (λ (q : j ≡ i).
-                subst (λ y. binOf (getD (set cursors i w) y 0) ≡ headOf (binsOf numbers ends y)) (sym q) (ap binOf a ∙ (ew .1 ∙ first-is)))
+                subst (λ y. binOf (getD (set cursors i w) y 0) ≡ headOf (lentOf numbers ends y)) (sym q) (ap binOf a ∙ (ew .1 ∙ first-is)))
                 (λ (q : j ≢ i). ap binOf (getD-set-other cursors i j w 0 q) ∙ p .firsts j (omega arith))
                 (eq-or-ne j i);
           }
 
-  pub placed-all : length ends ≤ i → Cursors numbers ends cursors 0
+  pub placed-all : length ends ≤ i → Cursors numbers ends cursors firstBin
   placed-all l =
       record {
         few = b .few;
         short = b .short;
         inside = b .inside;
-        risen = b .risen;
+        risen = λ j h. rise-from firstBin (lentOf numbers ends j) (b .risen j h);
         lengths = p .lengths;
         before = λ j h. let e = p .places j (omega arith) in let s = b .starts j h in omega arith;
-        same = λ j h v q. λ s. from v (slice numbers (sym (p .places j (omega arith)) s) (getD ends j 0));
+        same = λ j h v q.
+            from-from firstBin v (lentOf numbers ends j) q ∙ (λ s. from v (slice numbers (sym (p .places j (omega arith)) s) (getD ends j 0)));
         exact = λ j h. p .firsts j (omega arith) ∙ (λ s. headOf (slice numbers (sym (p .places j (omega arith)) s) (getD ends j 0)));
       }
 
@@ -90,24 +90,15 @@ ordered numbers ends o (suc i) h =
     subst (λ x. Ordered numbers ends (getD ends i 0) x) (add-one i)
     (next-ordered numbers ends (startOf ends i) i (omega arith) (ordered numbers ends o i (omega arith)))
 
-member : (i a : ℕ) (numbers ends : List ℕ) (j : ℕ) → j < length ends
-    → (n : ℕ) × List·Memᴰ (record { label = n; bins = slice numbers (getD (a ∷ ends) j 0) (getD ends j 0) }) (runsFrom i a numbers ends)
-unfolding runsFrom
-member i a numbers [] j h = absurd (omega arith)
-member i a numbers (e ∷ ends) zero h = (i, List·Memᴰ·head refl)
-member i a numbers (e ∷ ends) (suc j) h = let m = member (suc i) e numbers ends j (omega arith) in (m .0, List·Memᴰ·tail (m .1))
-
 pub begins : (numbers ends cursors : List ℕ) → Fits pastBin numbers → length ends ≤ mostRuns → Listed numbers ends → length cursors ≡ length ends
     → Begins numbers ends cursors
-unfolding runs
 begins numbers ends cursors f k p l =
     let o : Ordered numbers ends 0 0 = record { rise = p .ends-rise; last = p .ends-last } in
-    let r = runs-rising numbers ends f p in
     record {
       few = k;
       short = p .few-numbers;
       starts = λ i h. next-end numbers ends (startOf ends i) i h (ordered numbers ends o i h) .0;
       inside = λ i h. next-end numbers ends (startOf ends i) i h (ordered numbers ends o i h) .1;
-      risen = λ i h. let m = member 0 0 numbers ends i h in r .each _ (m .1);
+      risen = lists-rise 0 numbers ends (p .numbers-rise) f;
       lengths = l;
     }

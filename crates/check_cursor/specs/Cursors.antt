@@ -3,21 +3,24 @@ use Prim.Native.Nat.{ℕ, _/_, _%_, _≤_, _<_}
 use mathlib.Core.List.{List, _∷_}
 use mathlib.Core.Path.{_≡_}
 use lib.ListN.{length, getD}
-use Rattle.model.specs.Rows.{Rise, from}
-use Rattle.model.specs.Runs.{Run, slice, mostNumbers, mostRuns}
+use Rattle.model.specs.Rows.{Rise}
+use Rattle.model.specs.Runs.{Run, firstBin, slice, from, mostNumbers, mostRuns}
 use Rattle.model.specs.Walk.{headOf}
 
--- where run i starts, and its numbers
+-- where run i starts, its numbers as they are lent, and its bins
 abbrev pub startOf : List ℕ → ℕ → ℕ
 startOf ends i = getD (0 ∷ ends) i 0
 
+abbrev pub lentOf : List ℕ → List ℕ → ℕ → List ℕ
+lentOf numbers ends i = slice numbers (startOf ends i) (getD ends i 0)
+
 abbrev pub binsOf : List ℕ → List ℕ → ℕ → List ℕ
-binsOf numbers ends i = slice numbers (startOf ends i) (getD ends i 0)
+binsOf numbers ends i = from firstBin (lentOf numbers ends i)
 
 abbrev pub runAt : List ℕ → List ℕ → ℕ → Run
 runAt numbers ends i = record { label = i; bins = binsOf numbers ends i }
 
--- the first number of run i from v on, or the number after the last bin
+-- the first bin of run i from v on, or the number after the last bin
 abbrev pub headIn : List ℕ → List ℕ → ℕ → ℕ → ℕ
 headIn numbers ends i v = headOf (from v (binsOf numbers ends i))
 
@@ -31,13 +34,13 @@ placeOf c = c % cursorPlaces
 unfoldable pub binOf : ℕ → ℕ
 binOf c = c / cursorPlaces
 
--- Runs that rise, one after another, and for each a cursor in it: from its place on a run has the same numbers from any bin not below b on. The cursor's bin
+-- Runs that rise, one after another, and for each a cursor in it: from its place on a run has the same bins from any bin not below b on. The cursor's bin
 -- is the number at its place, or at the run's end the number after the last bin.
 pub record Cursors (numbers ends cursors : List ℕ) (b : ℕ) : Type 0 where
   pub few : length ends ≤ mostRuns
   pub short : length numbers ≤ mostNumbers
   pub inside : (i : ℕ) → i < length ends → getD ends i 0 ≤ length numbers
-  pub risen : (i : ℕ) → i < length ends → Rise 0 (binsOf numbers ends i)
+  pub risen : (i : ℕ) → i < length ends → Rise firstBin (binsOf numbers ends i)
   pub lengths : length cursors ≡ length ends
   pub before : (i : ℕ) → i < length ends → placeOf (getD cursors i 0) ≤ getD ends i 0
   pub same : (i : ℕ) → i < length ends → (v : ℕ) → b ≤ v
@@ -50,5 +53,5 @@ pub record Begins (numbers ends cursors : List ℕ) : Type 0 where
   pub short : length numbers ≤ mostNumbers
   pub starts : (i : ℕ) → i < length ends → startOf ends i ≤ getD ends i 0
   pub inside : (i : ℕ) → i < length ends → getD ends i 0 ≤ length numbers
-  pub risen : (i : ℕ) → i < length ends → Rise 0 (binsOf numbers ends i)
+  pub risen : (i : ℕ) → i < length ends → Rise 0 (lentOf numbers ends i)
   pub lengths : length cursors ≡ length ends

@@ -2,7 +2,7 @@
 ghost use mathlib.Core.Path.{_≡_};
 ghost use Prim.Native.Nat.{_≤_, _<_};
 ghost use lib.ListN.{length};
-ghost use Rattle.model.specs.Runs.{slice, pastBin};
+ghost use Rattle.model.specs.Runs.{slice, firstBin, pastBin};
 ghost use Rattle.model.specs.Walk.{headOf};
 ghost use Rattle.check_cursor.specs.Cursors.{cursorPlaces, placeOf, binOf, Cursors, Begins};
 
@@ -41,10 +41,10 @@ pub fn number_at(numbers: &[u32], place: usize, end: usize) -> u64
     limits::PAST_BIN
 }
 
-// Puts each run's cursor at its first number.
+// Puts each run's cursor at its first number. A 0 there is below every bin, so it is passed with the numbers before the first part.
 pub fn begin(numbers: &[u32], ends: &[u32], cursors: &mut [u64])
     requires { ⌜ Begins (now numbers) (now ends) (now cursors) ⌝ }
-    ensures { λ _. ⌜ Cursors (now (numbers .entry)) (now (ends .entry)) (now (cursors .exit)) 0 ⌝ }
+    ensures { λ _. ⌜ Cursors (now (numbers .entry)) (now (ends .entry)) (now (cursors .exit)) firstBin ⌝ }
 {
     let mut start: usize = 0;
     let mut i: usize = 0;

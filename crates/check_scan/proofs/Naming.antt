@@ -12,21 +12,21 @@ use mathlib.Core.Path.{_≡_, refl, sym, ap, _∙_, subst}
 use native.Mathlib.Nat.{div-eq-of-lt}
 use native.Mathlib.Omega.{arith}
 use Rattle.model.proofs.Checking.{within-none, within-some}
-use Rattle.model.specs.Rows.{Rise, from}
+use Rattle.model.specs.Rows.{Rise}
 use Rattle.model.proofs.From.{rise-from, head-mem, from-mem, mem-from, head-below-mem, head-least, holds-mem, mem-holds}
 use Rattle.model.proofs.Masks.{bit-of}
 use Rattle.model.proofs.Tests.{both, lt-or-le, eq-or-ne, true-false}
 use Rattle.model.specs.Certificate.{Part}
 use Rattle.model.specs.Between.{within}
 use Rattle.model.specs.Refusals.{contradicts, anyContradicts}
-use Rattle.model.specs.Runs.{Run, pastBin, runs, runsFrom, holds, bit, names}
+use Rattle.model.specs.Runs.{Run, firstBin, pastBin, from, runs, runsFrom, holds, bit, names}
 use Rattle.model.specs.Walk.{headOf}
 use Rattle.check_cursor.specs.Cursors.{startOf, binsOf, runAt, headIn}
 use Rattle.check_scan.specs.Scan.{clash, claim}
 
 -- ---- the first number from f on decides
 
-holds-head : (f : ℕ) (s : List ℕ) → Rise 0 s → f < pastBin → eqb (headOf (from f s)) f ≡ holds f s
+holds-head : (f : ℕ) {a : ℕ} (s : List ℕ) → Rise a s → f < pastBin → eqb (headOf (from f s)) f ≡ holds f s
 holds-head f s r h =
     ⊎-elim
     (λ (e : headOf (from f s) ≡ f).
@@ -43,7 +43,7 @@ holds-head f s r h =
     (both (holds f s)))
     (eq-or-ne (headOf (from f s)) f)
 
-within-head : (f l : ℕ) (s : List ℕ) → Rise 0 s → f < pastBin → l < pastBin → leb (headOf (from f s)) l ≡ not (eqb (length (within f l s)) 0)
+within-head : (f l : ℕ) {a : ℕ} (s : List ℕ) → Rise a s → f < pastBin → l < pastBin → leb (headOf (from f s)) l ≡ not (eqb (length (within f l s)) 0)
 within-head f l s r h k =
     ⊎-elim
     (λ (q : l < headOf (from f s)).
@@ -58,7 +58,7 @@ within-head f l s r h k =
     le-leb (headOf (from f s)) l q ∙ rw (ne-eqb (length (within f l s)) 0 n))
     (lt-or-le l (headOf (from f s)))
 
-named-clash : (held : Bool) (f l m : ℕ) (r : Run) → Rise 0 (r .bins) → f < pastBin → l < pastBin → names m r ≡ true
+named-clash : (held : Bool) (f l m : ℕ) {a : ℕ} (r : Run) → Rise a (r .bins) → f < pastBin → l < pastBin → names m r ≡ true
     → clash held f l (headOf (from f (r .bins))) ≡ contradicts (claim held f l m) r
 unfolding clash claim contradicts
 named-clash true f l m r i h k n = rw n (ap not (holds-head f (r .bins) i h))
@@ -83,7 +83,7 @@ unfolding names
 named-none m i s n = ne-eqb (bit m i) 1 n
 
 -- a named run whose first number from f on is x
-pub named-says : (numbers ends : List ℕ) (held : Bool) (f l m i x : ℕ) → Rise 0 (binsOf numbers ends i) → f < pastBin → l < pastBin → bit m i ≡ 1
+pub named-says : (numbers ends : List ℕ) (held : Bool) (f l m i x : ℕ) → Rise firstBin (binsOf numbers ends i) → f < pastBin → l < pastBin → bit m i ≡ 1
     → headIn numbers ends i f ≡ x → clash held f l x ≡ contradicts (claim held f l m) (runAt numbers ends i)
 named-says numbers ends held f l m i x r a b n e =
     ap (clash held f l) (sym e) ∙ named-clash held f l m (runAt numbers ends i) r a b (named-one m i (binsOf numbers ends i) n)

@@ -10,11 +10,10 @@ use mathlib.Core.Logic.{⊎-elim, _≢_}
 use mathlib.Core.Path.{_≡_, refl, sym, ap, _∙_, subst}
 use native.Mathlib.Omega.{arith}
 use Rattle.mask.proofs.Lowest.{cleared-here, cleared-other}
-use Rattle.model.specs.Rows.{from}
 use Rattle.model.proofs.Masks.{below-only}
 use Rattle.model.proofs.Tests.{eq-or-ne}
 use Rattle.model.specs.Refusals.{contradicts, anyContradicts}
-use Rattle.model.specs.Runs.{pastBin, slice, runs, bit}
+use Rattle.model.specs.Runs.{pastBin, slice, from, runs, bit}
 use Rattle.model.specs.Walk.{headOf}
 use Rattle.check_cursor.specs.Cursors.{runAt, headIn, cursorPlaces, placeOf, binOf, Cursors}
 use Rattle.check_scan.specs.Scan.{toScan, clash, claim, MorePassed}

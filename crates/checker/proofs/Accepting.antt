@@ -18,8 +18,8 @@ unfolding judged
 judged-refused c rs t certificate n p e = rw (e, judged)
 
 judged-passed : (c : Check) (rs : List Run) (t : ℕ) (certificate : List ℕ) → c ≡ passed
-    → checkFrom (length certificate) rs t 0 0 certificate ≡ judged c rs t certificate
-unfolding judged firstBin
+    → checkFrom (length certificate) rs t firstBin 0 certificate ≡ judged c rs t certificate
+unfolding judged
 judged-passed c rs t certificate e = rw (e, judged)
 
 with-demand : (c : Check) (rs : List Run) (t : ℕ) (certificate : List ℕ) (v w : Verdict) → v ≡ w → (c ≡ passed → Accepts rs t certificate w)
@@ -38,7 +38,7 @@ module _ (numbers ends : List ℕ) (m t : ℕ) (certificate : List ℕ) (f : Fit
   unfolding checkChosen
   chosen-refused {n} {p} e h = chosen-accepted (h ∙ judged-refused (chosenChecks numbers ends m t) (chosen m (runs numbers ends)) t certificate n p e)
 
-  pub chosen-judged : chosenChecks numbers ends m t ≡ passed → v ≡ checkFrom (length certificate) (chosen m (runs numbers ends)) t 0 0 certificate
+  pub chosen-judged : chosenChecks numbers ends m t ≡ passed → v ≡ checkFrom (length certificate) (chosen m (runs numbers ends)) t firstBin 0 certificate
       → (v ≡ checkChosen numbers ends m t certificate) × AcceptedChosen numbers ends m t certificate v
   unfolding checkChosen
   chosen-judged e h = chosen-accepted (h ∙ judged-passed (chosenChecks numbers ends m t) (chosen m (runs numbers ends)) t certificate e)
@@ -55,13 +55,13 @@ module _ (numbers ends : List ℕ) (t : ℕ) (certificate : List ℕ) (f : Fits 
   all-refused {n} {p} e h = all-accepted (h ∙ judged-refused (firstChecks numbers ends t) (runs numbers ends) t certificate n p e)
 
   pub all-judged : firstChecks numbers ends t ≡ passed
-      → v ≡ checkFrom (length certificate) (chosen (2 ^ length ends - 1) (runs numbers ends)) t 0 0 certificate
+      → v ≡ checkFrom (length certificate) (chosen (2 ^ length ends - 1) (runs numbers ends)) t firstBin 0 certificate
       → (v ≡ check numbers ends t certificate) × Accepted numbers ends t certificate v
   unfolding check
   all-judged e h =
       all-accepted
       (h
-      ∙ (ap (λ rs. checkFrom (length certificate) rs t 0 0 certificate) (every-run numbers ends)
+      ∙ (ap (λ rs. checkFrom (length certificate) rs t firstBin 0 certificate) (every-run numbers ends)
       ∙ judged-passed (firstChecks numbers ends t) (runs numbers ends) t certificate e))
 
 -- ---- what the first checks give

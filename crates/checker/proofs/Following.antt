@@ -16,7 +16,7 @@ use Rattle.model.proofs.Checking.{check-read}
 use Rattle.model.proofs.Encoding.{size-pos}
 use Rattle.model.specs.Certificate.{Part, answer, gap, lastOf, sizeOf, unreadable, read, readField}
 use Rattle.model.specs.Refusals.{refusal, Verdict, valid, invalid, checkPart, counted, atEnd, checkFrom}
-use Rattle.model.specs.Runs.{Run, pastBin, runs, chosen}
+use Rattle.model.specs.Runs.{Run, firstBin, pastBin, runs, chosen}
 use Rattle.check_cursor.specs.Cursors.{Cursors}
 use Rattle.check_part.specs.Tested.{numbered, PartChecked}
 use Rattle.checker.specs.Counts.{answerCount}
@@ -71,20 +71,21 @@ plus-counted a n (gap f l m) (invalid x y b k) = refl
 
 pub record Along (numbers ends : List ℕ) (m t : ℕ) (certificate cursors : List ℕ) (bin at answers parts : ℕ) : Type 0 where
   pub ready : Cursors numbers ends cursors bin
-  pub same : checkFrom (length certificate) (chosen m (runs numbers ends)) t 0 0 certificate
+  pub same : checkFrom (length certificate) (chosen m (runs numbers ends)) t firstBin 0 certificate
       ≡ plus answers parts (checkFrom (length certificate - parts) (chosen m (runs numbers ends)) t bin at (drop at certificate))
   pub few : answers ≤ parts
   pub slow : parts ≤ at
 
-pub along-start : (numbers ends : List ℕ) (m t : ℕ) (certificate cursors : List ℕ) → Cursors numbers ends cursors 0
-    → Along numbers ends m t certificate cursors 0 0 0 0
+pub along-start : (numbers ends : List ℕ) (m t : ℕ) (certificate cursors : List ℕ) → Cursors numbers ends cursors firstBin
+    → Along numbers ends m t certificate cursors 1 0 0 0
+unfolding firstBin
 along-start numbers ends m t certificate cursors c =
     let z : length certificate - 0 ≡ length certificate = omega arith in
     record {
       ready = c;
       same =
-          sym (plus-none (checkFrom (length certificate) (chosen m (runs numbers ends)) t 0 0 certificate))
-          ∙ (λ i. plus 0 0 (checkFrom (sym z i) (chosen m (runs numbers ends)) t 0 0 certificate));
+          sym (plus-none (checkFrom (length certificate) (chosen m (runs numbers ends)) t firstBin 0 certificate))
+          ∙ (λ i. plus 0 0 (checkFrom (sym z i) (chosen m (runs numbers ends)) t firstBin 0 certificate));
       few = omega arith;
       slow = omega arith;
     }
@@ -92,7 +93,7 @@ along-start numbers ends m t certificate cursors c =
 module _ (numbers ends : List ℕ) (m t : ℕ) (certificate cursors : List ℕ) (bin at answers parts : ℕ)
     (h : Along numbers ends m t certificate cursors bin at answers parts) where
   step : at < length certificate
-      → checkFrom (length certificate) (chosen m (runs numbers ends)) t 0 0 certificate
+      → checkFrom (length certificate) (chosen m (runs numbers ends)) t firstBin 0 certificate
       ≡ plus answers parts
       (checkFrom (suc (length certificate - (parts + 1))) (chosen m (runs numbers ends)) t bin at (getD certificate at 0 ∷ drop (suc at) certificate))
   step l =
@@ -102,7 +103,7 @@ module _ (numbers ends : List ℕ) (m t : ℕ) (certificate cursors : List ℕ) 
       h .same ∙ (λ i. plus answers parts (checkFrom (z i) (chosen m (runs numbers ends)) t bin at (d i)))
 
   pub along-unreadable : at < length certificate → (x : field.Field) → x ≡ Unreadable → readingOf certificate x ≡ readField (drop at certificate)
-      → invalid 8 at 0 0 ≡ checkFrom (length certificate) (chosen m (runs numbers ends)) t 0 0 certificate
+      → invalid 8 at 0 0 ≡ checkFrom (length certificate) (chosen m (runs numbers ends)) t firstBin 0 certificate
   unfolding readingOf plus
   along-unreadable l x e r =
       let d = drop-cons certificate at 0 l in
@@ -122,7 +123,7 @@ module _ (numbers ends : List ℕ) (m t : ℕ) (certificate cursors : List ℕ) 
   pub along-refused : at < length certificate → (x : field.Field) (q : code.Part) (next : ℕ) → x ≡ Read q next
       → readingOf certificate x ≡ readField (drop at certificate) → (cursors′ : List ℕ) (number : ℕ)
       → PartChecked numbers ends m t bin (partOf q) cursors′ number → number ≢ 0
-      → invalid number at 0 0 ≡ checkFrom (length certificate) (chosen m (runs numbers ends)) t 0 0 certificate
+      → invalid number at 0 0 ≡ checkFrom (length certificate) (chosen m (runs numbers ends)) t firstBin 0 certificate
   unfolding plus numbered
   along-refused l x q next e r cursors′ zero c n = absurd (n refl)
   along-refused l x q next e r cursors′ (suc number) c n =
@@ -158,7 +159,7 @@ module _ (numbers ends : List ℕ) (m t : ℕ) (certificate cursors : List ℕ) 
         slow = omega arith;
       }
 
-  pub along-valid : length certificate ≤ at → bin ≡ 4294967296 → valid answers parts ≡ checkFrom (length certificate) (chosen m (runs numbers ends)) t 0 0 certificate
+  pub along-valid : length certificate ≤ at → bin ≡ 4294967296 → valid answers parts ≡ checkFrom (length certificate) (chosen m (runs numbers ends)) t firstBin 0 certificate
   unfolding plus atEnd pastBin
   along-valid l e =
       let i : answers + 0 ≡ answers = omega arith in
@@ -169,7 +170,7 @@ module _ (numbers ends : List ℕ) (m t : ℕ) (certificate cursors : List ℕ) 
       ∙ ((λ z. plus answers parts (checkFrom (length certificate - parts) (chosen m (runs numbers ends)) t bin at (drop-of-length-le certificate l z)))
       ∙ (ap (plus answers parts) (from-end (length certificate - parts) (chosen m (runs numbers ends)) t bin at ∙ k) ∙ ap₂ valid i j)))
 
-  pub along-uncovered : length certificate ≤ at → bin ≢ 4294967296 → invalid 9 at 0 0 ≡ checkFrom (length certificate) (chosen m (runs numbers ends)) t 0 0 certificate
+  pub along-uncovered : length certificate ≤ at → bin ≢ 4294967296 → invalid 9 at 0 0 ≡ checkFrom (length certificate) (chosen m (runs numbers ends)) t firstBin 0 certificate
   unfolding plus atEnd pastBin
   along-uncovered l n =
       let k : atEnd bin at ≡ invalid 9 at 0 0 = rw (ne-eqb bin 4294967296 n, atEnd) in

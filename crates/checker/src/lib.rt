@@ -5,7 +5,7 @@ ghost use Prim.Native.Nat.{suc};
 ghost use lib.ListN.{length};
 ghost use Rattle.model.specs.Certificate.{lastOf};
 ghost use Rattle.model.specs.Refusals.{passed, invalid, chosenChecks, checkFrom, check, checkChosen};
-ghost use Rattle.model.specs.Runs.{runs, chosen};
+ghost use Rattle.model.specs.Runs.{firstBin, runs, chosen};
 ghost use Rattle.field_read.specs.Reading.{partOf};
 ghost use Rattle.check_cursor.specs.Cursors.{Cursors, Begins};
 ghost use Rattle.check_part.specs.Tested.{Choice};
@@ -51,10 +51,10 @@ fn check_parts(
     cursors: &mut [u64],
     certificate: &[u8],
 ) -> Verdict
-    requires { ⌜ Cursors (now numbers) (now ends) (now cursors) 0 × Choice (now ends) mask threshold few ⌝ }
-    ensures { λ r. ⌜ verdictIs r ≡ checkFrom (length (now (certificate .entry))) (chosen mask (runs (now (numbers .entry)) (now (ends .entry)))) threshold 0 0 (now (certificate .entry)) ⌝ }
+    requires { ⌜ Cursors (now numbers) (now ends) (now cursors) firstBin × Choice (now ends) mask threshold few ⌝ }
+    ensures { λ r. ⌜ verdictIs r ≡ checkFrom (length (now (certificate .entry))) (chosen mask (runs (now (numbers .entry)) (now (ends .entry)))) threshold firstBin 0 (now (certificate .entry)) ⌝ }
 {
-    let mut bin: u64 = 0;
+    let mut bin: u64 = limits::FIRST_BIN as u64;
     let mut at: usize = 0;
     let mut answers: usize = 0;
     let mut parts: usize = 0;
@@ -109,7 +109,7 @@ fn check_all(
     certificate: &[u8],
 ) -> Verdict
     requires { ⌜ Begins (now numbers) (now ends) (now cursors) × Choice (now ends) mask threshold few ⌝ }
-    ensures { λ r. ⌜ verdictIs r ≡ checkFrom (length (now (certificate .entry))) (chosen mask (runs (now (numbers .entry)) (now (ends .entry)))) threshold 0 0 (now (certificate .entry)) ⌝ }
+    ensures { λ r. ⌜ verdictIs r ≡ checkFrom (length (now (certificate .entry))) (chosen mask (runs (now (numbers .entry)) (now (ends .entry)))) threshold firstBin 0 (now (certificate .entry)) ⌝ }
 {
     check_cursor::begin(numbers, ends, cursors);
     check_parts(numbers, ends, mask, threshold, few, cursors, certificate)
@@ -124,7 +124,7 @@ fn check_passed(
     certificate: &[u8],
 ) -> Verdict
     requires { ⌜ chosenChecks (now numbers) (now ends) mask threshold ≡ passed ⌝ }
-    ensures { λ r. ⌜ verdictIs r ≡ checkFrom (length (now (certificate .entry))) (chosen mask (runs (now (numbers .entry)) (now (ends .entry)))) threshold 0 0 (now (certificate .entry)) ⌝ }
+    ensures { λ r. ⌜ verdictIs r ≡ checkFrom (length (now (certificate .entry))) (chosen mask (runs (now (numbers .entry)) (now (ends .entry)))) threshold firstBin 0 (now (certificate .entry)) ⌝ }
 {
     let mut cursors = [0u64; limits::MOST_RUNS];
     let k = ends.len();
@@ -144,7 +144,7 @@ fn refused(number: u8, place: usize) -> Verdict
     }
 }
 
-// Whether a certificate, whoever wrote it, is true of the lists and the threshold: it covers all bins in order, and each part is true of the runs that
+// Whether a certificate, whoever wrote it, is true of the lists and the threshold: it covers the bins from 1 on in order, and each part is true of the runs that
 // it names. After the first checks at most numbers + parts × runs steps: one for each run of each part, and one for each number passed, to which no part goes
 // back.
 pub fn check(numbers: &[u32], ends: &[u32], threshold: u32, certificate: &[u8]) -> Verdict

@@ -9,9 +9,8 @@ use mathlib.Core.Path.{_≡_, sym, ap, _∙_}
 use native.Mathlib.Numerals.{add-one}
 use native.Mathlib.Omega.{arith}
 use Rattle.model.specs.Refusals.{fallsFrom, lastEnd, unrisenIn}
-use Rattle.model.specs.Runs.{runsFrom, unrisen}
-use Rattle.model.proofs.FirstChecks.{not-fallen, end-last}
-use Rattle.model.proofs.Slices.{part-length}
+use Rattle.model.specs.Runs.{slice, unrisen}
+use Rattle.model.proofs.FirstChecks.{not-fallen, end-last, not-unrisen}
 
 -- ---- the ends
 
@@ -52,22 +51,24 @@ next-ordered numbers ends a i l o =
       last = rw (add-one i) (rw (drop-cons ends i 0 l) at (o .last));
     }
 
+-- where no number is out of order in the runs from i on: in run i none is, nor in the others
+pub next-risen : (numbers ends : List ℕ) (a i : ℕ) → i < length ends → unrisenIn a numbers (drop i ends) ≡ none
+    → (unrisen a (slice numbers a (getD ends i 0)) ≡ none) × (unrisenIn (getD ends i 0) numbers (drop (i + 1) ends) ≡ none)
+next-risen numbers ends a i l e =
+    rw (add-one i) (not-unrisen a (getD ends i 0) numbers (drop (suc i) ends) (rw (drop-cons ends i 0 l) at e))
+
 -- ---- the runs, one after another
 
 pub runs-at : (numbers ends : List ℕ) (a i p : ℕ) → i < length ends → unrisen a (take (getD ends i 0 - a) (drop a numbers)) ≡ some p
-    → unrisenIn a (runsFrom i a numbers (drop i ends)) ≡ some p
-unfolding unrisenIn runsFrom
+    → unrisenIn a numbers (drop i ends) ≡ some p
+unfolding unrisenIn
 runs-at numbers ends a i p l e = rw (drop-cons ends i 0 l) (rw (e, unrisenIn))
 
-pub runs-on : (numbers ends : List ℕ) (a i : ℕ) → i < length ends → Ordered numbers ends a i → unrisen a (take (getD ends i 0 - a) (drop a numbers)) ≡ none
-    → unrisenIn a (runsFrom i a numbers (drop i ends)) ≡ unrisenIn (getD ends i 0) (runsFrom (i + 1) (getD ends i 0) numbers (drop (i + 1) ends))
-unfolding unrisenIn runsFrom
-runs-on numbers ends a i l o e =
-    let n = next-end numbers ends a i l o in
-    let k = part-length a (getD ends i 0) numbers (n .1) in
-    let j : a + length (take (getD ends i 0 - a) (drop a numbers)) ≡ getD ends i 0 = omega (arith, n .0) in
-    rw (drop-cons ends i 0 l, add-one i) (rw (e, unrisenIn) (rw j))
+pub runs-on : (numbers ends : List ℕ) (a i : ℕ) → i < length ends → unrisen a (take (getD ends i 0 - a) (drop a numbers)) ≡ none
+    → unrisenIn a numbers (drop i ends) ≡ unrisenIn (getD ends i 0) numbers (drop (i + 1) ends)
+unfolding unrisenIn
+runs-on numbers ends a i l e = rw (drop-cons ends i 0 l, add-one i) (rw (e, unrisenIn))
 
-pub runs-end : (numbers ends : List ℕ) (a i : ℕ) → length ends ≤ i → unrisenIn a (runsFrom i a numbers (drop i ends)) ≡ none
-unfolding unrisenIn runsFrom
+pub runs-end : (numbers ends : List ℕ) (a i : ℕ) → length ends ≤ i → unrisenIn a numbers (drop i ends) ≡ none
+unfolding unrisenIn
 runs-end numbers ends a i h = rw (drop-of-length-le ends h)

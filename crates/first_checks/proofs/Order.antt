@@ -89,14 +89,14 @@ module _ (numbers ends : List ℕ) where
       too-long h = rw (rise, eq-eqb (lastEnd 0 ends) (length numbers) last, lt-ltb mostNumbers (length numbers) h)
 
       module _ (short : length numbers ≤ mostNumbers) where
-        to-numbers : listChecks numbers ends ≡ refuseAt 4 (unrisenIn 0 (runs numbers ends))
+        to-numbers : listChecks numbers ends ≡ refuseAt 4 (unrisenIn 0 numbers ends)
         unfolding listChecks _then_ refuseAt refuseIf
         to-numbers = rw (rise, eq-eqb (lastEnd 0 ends) (length numbers) last, le-ltb mostNumbers (length numbers) short)
 
-        pub unrisen-at : {p : ℕ} → unrisenIn 0 (runs numbers ends) ≡ some p → listChecks numbers ends ≡ refusal 4 p
+        pub unrisen-at : {p : ℕ} → unrisenIn 0 numbers ends ≡ some p → listChecks numbers ends ≡ refusal 4 p
         unfolding refuseAt
         unrisen-at h = rw (to-numbers, h)
 
-        pub lists-pass : unrisenIn 0 (runs numbers ends) ≡ none → listChecks numbers ends ≡ passed
+        pub lists-pass : unrisenIn 0 numbers ends ≡ none → listChecks numbers ends ≡ passed
         unfolding refuseAt
         lists-pass h = rw (to-numbers, h)

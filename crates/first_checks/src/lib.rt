@@ -6,7 +6,7 @@ ghost use Prim.Native.Nat.{_≤_};
 ghost use lib.Count.{ones};
 ghost use lib.ListN.{length};
 ghost use Rattle.model.specs.Refusals.{_then_, fallsFrom, lastEnd, unrisenIn, countCheck, thresholdCheck, maskCheck, listChecks, firstChecks, chosenChecks};
-ghost use Rattle.model.specs.Runs.{runs, mostRuns};
+ghost use Rattle.model.specs.Runs.{mostRuns};
 ghost use Rattle.rising.specs.Found.{foundPlace};
 ghost use Rattle.first_checks.specs.Checked.{checkOf};
 use rising::Found;
@@ -37,7 +37,7 @@ fn falling_end(ends: &[u32]) -> Found
 // The first number that is not above the one before in its run, where the ends are in order and the last is the length.
 fn unrisen_number(numbers: &[u32], ends: &[u32]) -> Found
     requires { ⌜ (fallsFrom 0 0 (now ends) ≡ none) × (lastEnd 0 (now ends) ≡ length (now numbers)) ⌝ }
-    ensures { λ r. ⌜ foundPlace r ≡ unrisenIn 0 (runs (now (numbers .entry)) (now (ends .entry))) ⌝ }
+    ensures { λ r. ⌜ foundPlace r ≡ unrisenIn 0 (now (numbers .entry)) (now (ends .entry)) ⌝ }
 {
     let mut start: usize = 0;
     let mut i: usize = 0;

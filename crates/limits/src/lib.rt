@@ -6,7 +6,9 @@ pub const MOST_RUNS: usize = 64;
 // All runs together have at most so many numbers.
 pub const MOST_NUMBERS: usize = 1048576;
 
-// A bin is a number from 0 to LAST_BIN; PAST_BIN is the number after the last.
+// A bin is a number from FIRST_BIN to LAST_BIN; PAST_BIN is the number after the last. 0 is no bin but the unmapped mark.
+pub const FIRST_BIN: u32 = 1;
+
 pub const LAST_BIN: u32 = 4294967295;
 
 pub const PAST_BIN: u64 = 4294967296;

@@ -12,12 +12,12 @@ use native.Mathlib.Nat.{mul-le-mul-left}
 use native.Mathlib.Omega.{arith}
 use Rattle.model.specs.Certificate.{Part}
 use Rattle.model.specs.Compared.{partsOf, cost, doublingProbe, halvingProbe, probe, inRun, probesIn, digits}
-use Rattle.model.specs.Runs.{Run, pastBin, total, one}
+use Rattle.model.specs.Runs.{Run, pastBin, from, total, one}
 use Rattle.model.specs.Walk.{Event, sought, doubled, halved, wrote, headOf, head, seek, searchIn, searches}
 use Rattle.model.proofs.Count.{total-map, total-zero, total-add, total-times}
 use Rattle.model.proofs.Digits.{digits-mono}
 use Rattle.model.proofs.Events.{cost-append, cost-replicate, cost-searches, parts-wrote, parts-round}
-use Rattle.model.specs.Rows.{Rise, from}
+use Rattle.model.specs.Rows.{Rise}
 use Rattle.model.proofs.From.{rise-from, from-length, from-fewer, head-nil, head-cons}
 use Rattle.model.proofs.Masks.{Ascending, ascending-first, ascending-rest, ascending-least}
 use Rattle.model.proofs.Searching.{sought-right}
@@ -80,7 +80,7 @@ other-search v i r n =
     (lt-or-le (head r) v)
 
 -- the probes in a run in one round
-from-search : (v f : ℕ) (r : Run) → Rise 0 (r .bins) → v ≤ pastBin
+from-search : (v f : ℕ) {a : ℕ} (r : Run) → Rise a (r .bins) → v ≤ pastBin
     → probesIn (r .label) (searchIn v (fromRun f r)) ≤ one (ltb (headOf (from f (r .bins))) v) * (2 * digits (length (r .bins)))
 unfolding fromRun
 from-search v f r g b =

@@ -16,14 +16,14 @@ use Rattle.model.specs.Certificate.{Part, answer, gap, answersOf, encode
 use Rattle.model.specs.Compared.{wholeWalk, partsOf}
 use Rattle.model.specs.Demands.{Fits, refusedBy}
 use Rattle.model.specs.Refusals.{Check, passed, refusal, _then_, refuseIf, refuseAt, fallsFrom, lastEnd, countCheck, thresholdCheck, listChecks, firstChecks, Room, met, after, cut, cutWalk, refused, outcomeOf, query}
-use Rattle.model.specs.Runs.{Run, firstBin, pastBin, runsFrom, runs, total, one, count}
+use Rattle.model.specs.Runs.{Run, firstBin, pastBin, slice, from, runsFrom, runs, total, one, count}
 use Rattle.model.specs.Walk.{Event, sought, doubled, halved, wrote, headOf, head}
 use Rattle.model.proofs.Count.{total-le, total-add, count-map, count-le}
 use Rattle.model.proofs.Cutting.{cut-on, cut-here, encoded}
 use Rattle.model.proofs.Demands.{whole-walked}
 use Rattle.model.proofs.Events.{parts-round}
 use Rattle.model.proofs.FirstChecks.{Listed, first-passed, fit, not-fallen}
-use Rattle.model.specs.Rows.{from, below, equal}
+use Rattle.model.specs.Rows.{below, equal}
 use Rattle.model.proofs.From.{from-pass, from-stop, from-nil, from-from, from-length, from-fewer, head-nil, head-cons}
 use Rattle.model.proofs.Heads.{atMost}
 use Rattle.model.proofs.Tests.{lt-or-le, eq-or-ne, one-most}
@@ -128,6 +128,7 @@ runs-numbers i a j numbers (e ∷ ends) h =
     let n = not-fallen a j e ends h in
     let k = runs-numbers (suc i) e (suc j) numbers ends (n .1) in
     let l = length-take (e - a) (drop a numbers) in
+    let b = from-length firstBin (slice numbers a e) in
     omega (arith, n .0)
 
 left-most : (f : ℕ) (rs : List Run) → left f rs ≤ total (λ r. length (r .bins)) rs

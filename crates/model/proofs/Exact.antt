@@ -14,7 +14,7 @@ use Rattle.model.specs.Demands.{Exact}
 use Rattle.model.specs.Runs.{Run, firstBin, pastBin, unrisenAfter, unrisen, holds, count, names}
 use Rattle.model.proofs.Count.{count-disjoint, count-le, count-some}
 use Rattle.model.proofs.Fewest.{covers-nil, covers-first, covers-order, covers-rest, gap-names, answer-names}
-use Rattle.model.proofs.From.{holds-mem, mem-holds, rise-bin}
+use Rattle.model.proofs.From.{holds-mem, mem-holds, rise-least, rise-bin}
 use Rattle.model.proofs.Tests.{both, lt-or-le}
 use Rattle.model.proofs.Truth.{Fit}
 
@@ -104,10 +104,6 @@ answers-rise b [] c = refl
 answers-rise b (answer v n ∷ ps) c = answers-after 0 v (suc v) ps (covers-rest c) (omega arith)
 answers-rise b (gap f g n ∷ ps) c = answers-rise (suc g) ps (covers-rest c)
 
-pub first-least : firstBin ≡ 0
-unfolding firstBin
-first-least = refl
-
 -- The answers of any true certificate are exact.
 pub exact : {rs : List Run} {t : ℕ} {ps : List Part} → Fit rs t → TrueCertificate rs t ps → Exact rs t (answersOf ps)
 unfolding held
@@ -119,8 +115,8 @@ exact {rs} {t} {ps} g c =
             let p = g .some in
             let s = count-some (λ r. holds x (r .bins)) rs (omega arith) in
             let m = holds-mem x (s .0 .bins) (s .2) in
-            let e = first-least in
-            held-answers g firstBin ps (c .covering) (c .each) x (omega arith) (rise-bin (g .rising .each (s .0) (s .1)) m) h,
+            let r = g .rising .each (s .0) (s .1) in
+            held-answers g firstBin ps (c .covering) (c .each) x (rise-least r m) (rise-bin r m) h,
       );
       rising = answers-rise firstBin ps (c .covering);
     }

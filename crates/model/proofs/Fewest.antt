@@ -13,11 +13,11 @@ use mathlib.Core.Path.{_≡_, refl, sym, ap, _∙_, subst}
 use native.Mathlib.Omega.{arith}
 use Rattle.model.specs.Certificate.{Part, firstOf, lastOf, Covers, covered, covers, TrueGap, TrueAnswer, TruePart, gap-true, answer-true}
 use Rattle.model.specs.Compared.{partsOf}
-use Rattle.model.specs.Runs.{Run, lastBin, pastBin, count, names}
+use Rattle.model.specs.Runs.{Run, lastBin, pastBin, from, count, names}
 use Rattle.model.specs.Walk.{Event, head, headOf, wrote}
 use Rattle.model.proofs.Count.{count-disjoint, count-map, count-le}
 use Rattle.model.proofs.Events.{parts-wrote, parts-nil, parts-round}
-use Rattle.model.specs.Rows.{from, equal}
+use Rattle.model.specs.Rows.{equal}
 use Rattle.model.proofs.From.{rise-from, from-mem, head-mem, head-least}
 use Rattle.model.proofs.Heads.{atMost}
 use Rattle.model.proofs.Masks.{ones-names}

@@ -16,8 +16,9 @@ use native.Mathlib.Nat.{div-eq-of-lt, div-lt-iff-lt-mul, one-mul}
 use native.Mathlib.Omega.{arith}
 use Rattle.model.specs.Demands.{Fits}
 use Rattle.model.specs.Refusals.{Check, passed, refusal, _then_, refuseIf, refuseAt, fallsFrom, lastEnd, unrisenIn, countCheck, thresholdCheck, listChecks, maskCheck, firstChecks, chosenChecks}
-use Rattle.model.specs.Runs.{Run, pastBin, runsFrom, runs, chosen, unrisenAfter, unrisen, mostNumbers, mostRuns}
+use Rattle.model.specs.Runs.{Run, firstBin, pastBin, slice, from, runsFrom, runs, chosen, unrisenAfter, unrisen, mostNumbers, mostRuns}
 use Rattle.model.specs.Rows.{Rise, rise-nil, rise-cons}
+use Rattle.model.proofs.From.{rise-from}
 use Rattle.model.proofs.Masks.{Labelled, labelled-nil, labelled-cons, ascending}
 use Rattle.model.proofs.Chosen.{chosen-ascending, chosen-rising, chosen-all, ones-chosen}
 use Rattle.model.proofs.Tests.{lt-or-le, or-false}
@@ -68,15 +69,8 @@ drop-mem zero s m = m
 drop-mem (suc n) [] m = m
 drop-mem (suc n) (y ∷ s) m = List·Memᴰ·tail (drop-mem n s m)
 
-pub runs-fit : (w i a : ℕ) (numbers ends : List ℕ) → Fits w numbers → (r : Run) → List·Memᴰ r (runsFrom i a numbers ends) → Fits w (r .bins)
-unfolding runsFrom
-runs-fit w i a numbers [] h r m = absurd (List·Memᴰ·not-nil m)
-runs-fit w i a numbers (e ∷ ends) h r m =
-    ⊎-elim
-    (λ (q : r ≡ record { label = i; bins = take (e - a) (drop a numbers) }).
-    rw q (record { each = λ x k. h .each x (drop-mem a numbers (take-mem (e - a) (drop a numbers) k)) }))
-    (λ k. runs-fit w (suc i) e numbers ends h r k)
-    (List·Memᴰ·cases-cons m)
+slice-fits : (w a e : ℕ) (numbers : List ℕ) → Fits w numbers → Fits w (slice numbers a e)
+slice-fits w a e numbers h = record { each = λ x k. h .each x (drop-mem a numbers (take-mem (e - a) (drop a numbers) k)) }
 
 -- a list in which no number is out of order rises
 pub risen-after : (i x : ℕ) (s : List ℕ) → unrisenAfter i x s ≡ none → Fits pastBin s → Rise (suc x) s
@@ -97,22 +91,37 @@ risen i (x ∷ s) e h =
     let z : 0 ≤ x = omega arith in
     rise-cons z (h .each x (List·Memᴰ·head refl)) (risen-after i x s e (record { each = λ y m. h .each y (List·Memᴰ·tail m) }))
 
-all-risen : (a : ℕ) (rs : List Run) → unrisenIn a rs ≡ none → ((r : Run) → List·Memᴰ r rs → Fits pastBin (r .bins)) → Rising rs
+-- Where no number is out of order in its run as it is lent: in the first run none is, nor in the others.
+pub not-unrisen : (a e : ℕ) (numbers ends : List ℕ) → unrisenIn a numbers (e ∷ ends) ≡ none
+    → (unrisen a (slice numbers a e) ≡ none) × (unrisenIn e numbers ends ≡ none)
 unfolding unrisenIn
-all-risen a [] e h = record { each = λ r m. absurd (List·Memᴰ·not-nil m) }
-all-risen a (s ∷ rs) e h = go (unrisen a (s .bins)) refl (λ b k. all-risen b rs k (λ r m. h r (List·Memᴰ·tail m)))
+not-unrisen a e numbers ends h = go (unrisen a (slice numbers a e)) refl
   where
-    go : (o : Option ℕ) → unrisen a (s .bins) ≡ o → ((b : ℕ) → unrisenIn b rs ≡ none → Rising rs) → Rising (s ∷ rs)
-    go none k rest =
-        let first = risen a (s .bins) k (h s (List·Memᴰ·head refl)) in
-        let others = rest (a + length (s .bins)) (rw (k, unrisenIn) at e) in
-        record {
-          each = λ r m.
-              ⊎-elim (λ (q : r ≡ s). rw q first) (λ n. others .each r n) (List·Memᴰ·cases-cons m);
-        }
-    go (some i) k rest =
-        let z : some i ≡ none = rw (k, unrisenIn) at e in
-        absurd (let w : _≡_ {A = ℕ} 0 1 = cc in omega arith)
+    go : (o : Option ℕ) → unrisen a (slice numbers a e) ≡ o → (unrisen a (slice numbers a e) ≡ none) × (unrisenIn e numbers ends ≡ none)
+    go none k = (k, rw (k, unrisenIn) at h)
+    go (some i) k = let z : some i ≡ none = rw (k, unrisenIn) at h in absurd (let w : _≡_ {A = ℕ} 0 1 = cc in omega arith)
+
+-- So each run as it is lent rises, and the bins of each rise.
+pub lists-rise : (a : ℕ) (numbers ends : List ℕ) → unrisenIn a numbers ends ≡ none → Fits pastBin numbers → (i : ℕ) → i < length ends
+    → Rise 0 (slice numbers (getD (a ∷ ends) i 0) (getD ends i 0))
+lists-rise a numbers [] h f i l = absurd (omega arith)
+lists-rise a numbers (e ∷ ends) h f zero l = risen a (slice numbers a e) (not-unrisen a e numbers ends h .0) (slice-fits pastBin a e numbers f)
+lists-rise a numbers (e ∷ ends) h f (suc i) l = lists-rise e numbers ends (not-unrisen a e numbers ends h .1) f i (omega arith)
+
+all-risen : (i a : ℕ) (numbers ends : List ℕ) → unrisenIn a numbers ends ≡ none → Fits pastBin numbers → Rising (runsFrom i a numbers ends)
+unfolding runsFrom
+all-risen i a numbers [] h f = record { each = λ r m. absurd (List·Memᴰ·not-nil m) }
+all-risen i a numbers (e ∷ ends) h f =
+    let n = not-unrisen a e numbers ends h in
+    let s = risen a (slice numbers a e) (n .0) (slice-fits pastBin a e numbers f) in
+    let others = all-risen (suc i) e numbers ends (n .1) f in
+    record {
+      each = λ r m.
+          ⊎-elim
+          (λ (q : r ≡ record { label = i; bins = from firstBin (slice numbers a e) }). rw q (rise-from firstBin (slice numbers a e) s))
+          (λ k. others .each r k)
+          (List·Memᴰ·cases-cons m);
+    }
 
 -- ends that do not fall: the first is not below the one before, the others do not fall, and the last is not below it either
 pub not-fallen : (b i e : ℕ) (ends : List ℕ) → fallsFrom b i (e ∷ ends) ≡ none → (b ≤ e) × (fallsFrom e (suc i) ends ≡ none)
@@ -147,7 +156,7 @@ pub record Listed (numbers ends : List ℕ) : Type 0 where
   pub ends-rise : fallsFrom 0 0 ends ≡ none
   pub ends-last : lastEnd 0 ends ≡ length numbers
   pub few-numbers : length numbers ≤ mostNumbers
-  pub numbers-rise : unrisenIn 0 (runs numbers ends) ≡ none
+  pub numbers-rise : unrisenIn 0 numbers ends ≡ none
 
 pub eqb-not : (a b : ℕ) → not (eqb a b) ≡ false → a ≡ b
 eqb-not a b e = borrow.Author.Tests.eqb-true a b (borrow.Author.Tests.not-false (eqb a b) e)
@@ -181,7 +190,7 @@ lists-passed numbers ends e =
     let c₃ = refuse-at 3 (fallsFrom 0 0 ends) (then-first _ _ e) in
     let e₄ = then-second _ _ e in
     let c₄ = refuse-if _ 3 (length ends) (then-first _ _ e₄) in
-    let c₅ = refuse-at 4 (unrisenIn 0 (runs numbers ends)) (then-second _ _ e₄) in
+    let c₅ = refuse-at 4 (unrisenIn 0 numbers ends) (then-second _ _ e₄) in
     let d₄ = or-false (not (eqb (lastEnd 0 ends) (length numbers))) (ltb mostNumbers (length numbers)) c₄ in
     record {
       ends-rise = c₃;
@@ -263,7 +272,7 @@ all-chosen-checks numbers ends t e =
 
 pub runs-rising : (numbers ends : List ℕ) → Fits pastBin numbers → Listed numbers ends → Rising (runs numbers ends)
 unfolding runs
-runs-rising numbers ends h p = all-risen 0 (runsFrom 0 0 numbers ends) (p .numbers-rise) (λ r m. runs-fit pastBin 0 0 numbers ends h r m)
+runs-rising numbers ends h p = all-risen 0 0 numbers ends (p .numbers-rise) h
 
 pub all-labelled : (numbers ends : List ℕ) → Labelled 0 (runs numbers ends)
 unfolding runs

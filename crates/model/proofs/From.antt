@@ -9,10 +9,10 @@ use mathlib.Core.List.{List, [], _∷_, List·Memᴰ, List·Memᴰ·head, List·
 use mathlib.Core.Logic.{_⊎_, inl, inr, ⊎-elim, _≢_}
 use mathlib.Core.Path.{_≡_, refl, sym, ap, _∙_, subst}
 use native.Mathlib.Omega.{arith}
-use Rattle.model.specs.Runs.{pastBin, one, holds}
+use Rattle.model.specs.Runs.{pastBin, from, one, holds}
 use Rattle.model.specs.Walk.{headOf}
 use Rattle.model.proofs.Tests.{lt-or-le, eq-or-ne, true-false, one-most}
-use Rattle.model.specs.Rows.{Rise, rise-nil, rise-cons, from, rank}
+use Rattle.model.specs.Rows.{Rise, rise-nil, rise-cons, rank}
 
 pub rise-least : {a x : ℕ} {s : List ℕ} → Rise a s → List·Memᴰ x s → a ≤ x
 rise-least rise-nil m = absurd (List·Memᴰ·not-nil m)

@@ -26,4 +26,5 @@ pub mod Searching
 pub mod Slices
 pub mod Tests
 pub mod Truth
+pub mod Unmapped
 pub mod Walking

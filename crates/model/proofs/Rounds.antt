@@ -96,11 +96,7 @@ first-bin : firstBin < pastBin
 unfolding firstBin pastBin
 first-bin = omega arith
 
-first-start : (rs : List Run) → Rising rs → at firstBin rs ≡ rs
-unfolding firstBin
-first-start rs g = at-start 0 rs (omega arith) g
-
 pub over-within-parts : {rs : List Run} {t : ℕ} → Fit rs t → (n : ℕ) → length (wholeCertificate t rs) ≤ n → walk n t firstBin rs ≡ wholeWalk t rs
 unfolding wholeCertificate
 over-within-parts {rs} {t} g n l =
-    ap (walk n t firstBin) (sym (first-start rs (g .rising))) ∙ enough-rounds (g .rising) (whole-walked g) n l first-bin
+    ap (walk n t firstBin) (sym (at-start firstBin rs (omega arith) (g .rising))) ∙ enough-rounds (g .rising) (whole-walked g) n l first-bin

@@ -11,9 +11,10 @@ use mathlib.Core.Logic.{⊎-elim}
 use mathlib.Core.Path.{_≡_, refl, sym, ap, _∙_}
 use native.Mathlib.Omega.{arith}
 use Rattle.model.specs.Compared.{digits}
+use Rattle.model.specs.Runs.{from}
 use Rattle.model.specs.Walk.{doubling, Bracket, halving, Halving, seek}
 use Rattle.model.proofs.Digits.{below-digits}
-use Rattle.model.specs.Rows.{Rise, from, rank}
+use Rattle.model.specs.Rows.{Rise, rank}
 use Rattle.model.proofs.From.{rank-le, below-rank, from-rank, drop-rank, rank-pass}
 use Rattle.model.proofs.Tests.{lt-or-le}
 

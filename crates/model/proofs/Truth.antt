@@ -12,11 +12,11 @@ use mathlib.Core.Path.{_≡_, refl, sym, ap, _∙_, subst}
 use native.Mathlib.Omega.{arith}
 use Rattle.model.specs.Certificate.{Part, firstOf, lastOf, Covers, covered, covers, NamesOnly, TrueGap, TrueAnswer, TruePart, gap-true, answer-true}
 use Rattle.model.specs.Compared.{partsOf}
-use Rattle.model.specs.Runs.{Run, lastBin, pastBin, mask, names}
+use Rattle.model.specs.Runs.{Run, lastBin, pastBin, from, mask, names}
 use Rattle.model.specs.Walk.{Event, head, headOf, wrote}
 use Rattle.model.proofs.Count.{count-not}
 use Rattle.model.proofs.Events.{parts-wrote, parts-nil, parts-round}
-use Rattle.model.specs.Rows.{from, below, equal}
+use Rattle.model.specs.Rows.{below, equal}
 use Rattle.model.proofs.From.{rise-from, mem-from, from-mem, head-below-mem, head-mem}
 use Rattle.model.proofs.Masks.{Ascending, ascending-nil, ascending-cons, mask-bit, ones-mask, names-mask}
 use Rattle.model.proofs.Tests.{lt-or-le}

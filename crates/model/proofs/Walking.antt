@@ -11,10 +11,10 @@ use mathlib.Core.Logic.{_⊎_, inl, inr, ⊎-elim, _≢_}
 use mathlib.Core.Path.{_≡_, refl, sym, ap, ap₂, _∙_, subst}
 use native.Mathlib.Omega.{arith}
 use Rattle.model.specs.Certificate.{Part, answer, gap}
-use Rattle.model.specs.Runs.{Run, lastBin, pastBin, count, mask}
+use Rattle.model.specs.Runs.{Run, firstBin, lastBin, pastBin, from, count, mask}
 use Rattle.model.specs.Walk.{Event, wrote, headOf, head, tthHead, searchIn, searches, searched, movedOn, settle, round, walk}
 use Rattle.model.proofs.Count.{count-le}
-use Rattle.model.specs.Rows.{Rise, from, below, equal}
+use Rattle.model.specs.Rows.{Rise, below, equal}
 use Rattle.model.proofs.From.{rise-from, from-from, from-all, from-nil, head-nil, head-cons, head-least, head-bin, from-past-head, from-other-head}
 use Rattle.model.proofs.Heads.{Heads, atMost, tth-past, tth-ge, tth-enough, tth-few}
 use Rattle.model.proofs.Searching.{sought-right}
@@ -24,9 +24,9 @@ pub past-last : pastBin ≡ suc lastBin
 unfolding pastBin lastBin
 past-last = refl
 
--- runs that rise
+-- runs whose bins rise
 pub record Rising (rs : List Run) : Type 0 where
-  pub each : (r : Run) → List·Memᴰ r rs → Rise 0 (r .bins)
+  pub each : (r : Run) → List·Memᴰ r rs → Rise firstBin (r .bins)
 
 pub rising-tail : {r : Run} {rs : List Run} → Rising (r ∷ rs) → Rising rs
 rising-tail g = record { each = λ s m. g .each s (List·Memᴰ·tail m) }
@@ -62,7 +62,7 @@ pub head-from : (f : ℕ) (r : Run) → head (fromRun f r) ≡ headOf (from f (r
 unfolding head fromRun
 head-from f r = refl
 
-pub at-start : (f : ℕ) (rs : List Run) → f ≤ 0 → Rising rs → at f rs ≡ rs
+pub at-start : (f : ℕ) (rs : List Run) → f ≤ firstBin → Rising rs → at f rs ≡ rs
 unfolding at fromRun
 at-start f [] l g = refl
 at-start f (r ∷ rs) l g =

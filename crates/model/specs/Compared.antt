@@ -8,8 +8,8 @@ use Rattle.model.specs.Certificate.{Part}
 use Rattle.model.specs.Runs.{Run, firstBin, pastBin, total, one}
 use Rattle.model.specs.Walk.{Event, sought, doubled, halved, wrote, walk}
 
--- The whole walk is the walk with an allowance and buffers that never run out. A floor starts at 0 and no round leaves it where it was, so there
--- are no more rounds than bins.
+-- The whole walk is the walk with an allowance and buffers that never run out. A floor starts at the first bin and no round leaves it where it
+-- was, so there are no more rounds than bins.
 unfoldable pub wholeWalk : ℕ → List Run → List Event
 wholeWalk t rs = walk pastBin t firstBin rs
 

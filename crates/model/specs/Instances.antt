@@ -1,13 +1,14 @@
--- docs/SPECIFICATION.md, 'Instances': the starred ones, with one that tells rounding the halving place down from rounding it up and some that tell the two
--- kinds of probes.
+-- docs/SPECIFICATION.md, 'Instances': the starred ones, with one that tells rounding the halving place down from rounding it up, some that tell the two
+-- kinds of probes and some with an unmapped mark.
 -- Definitions only.
 use Prim.Native.Nat.{ℕ}
 use mathlib.Core.List.{List, [], _∷_, _++_, map}
 use mathlib.Core.Path.{_≡_}
-use lib.ListN.{take, replicate}
+use lib.ListN.{take, drop, replicate}
+use Rattle.model.specs.Between.{between}
 use Rattle.model.specs.Certificate.{Part, answer, gap, answersOf, encode}
 use Rattle.model.specs.Many.{ManyOutcome, all-accepted, refused-in, AnsweredMany, queryMany}
-use Rattle.model.specs.Refusals.{Outcome, accepted, refused, Answered, over, query}
+use Rattle.model.specs.Refusals.{Outcome, accepted, refused, Answered, over, query, valid, invalid, check}
 
 -- A question, and what it returns and writes. Its buffers are large enough: 8 answers and 128 bytes, of zeros.
 pub record Instance : Type 0 where
@@ -55,7 +56,7 @@ figure1 t o ps =
     (1 ∷ 5 ∷ 9 ∷ 13 ∷ 17 ∷ 21 ∷ 25 ∷ []) t o ps
 
 unfoldable pub listingParts : List Part
-listingParts = gap 0 1 3 ∷ gap 2 4 6 ∷ answer 5 3 ∷ gap 6 8 5 ∷ answer 9 7 ∷ gap 10 4294967295 5 ∷ []
+listingParts = gap 1 1 3 ∷ gap 2 4 6 ∷ answer 5 3 ∷ gap 6 8 5 ∷ answer 9 7 ∷ gap 10 4294967295 5 ∷ []
 
 unfoldable pub starred : List Instance
 starred =
@@ -63,21 +64,21 @@ starred =
     listing 2 (refused 7 4 1 72 2 0) (take 4 listingParts) ∷
     listing 0 (refused 7 1 0 19 0 0) (take 1 listingParts) ∷
     instance (100 ∷ 10 ∷ 20 ∷ 30 ∷ 40 ∷ 50 ∷ 60 ∷ 70 ∷ 80 ∷ 90 ∷ 100 ∷ []) (1 ∷ 11 ∷ []) 2 (accepted 1 3 53 4 1)
-    (gap 0 99 1 ∷ answer 100 3 ∷ gap 101 4294967295 3 ∷ []) ∷
-    instance (1 ∷ 2 ∷ 3 ∷ 4 ∷ 5 ∷ 6 ∷ []) (3 ∷ 6 ∷ []) 2 (accepted 0 2 38 2 0) (gap 0 3 2 ∷ gap 4 4294967295 1 ∷ []) ∷
-    instance (0 ∷ 4294967295 ∷ []) (2 ∷ []) 1 (accepted 2 3 49 0 0) (answer 0 1 ∷ gap 1 4294967294 1 ∷ answer 4294967295 1 ∷ []) ∷
-    instance [] (0 ∷ []) 1 (accepted 0 1 19 0 0) (gap 0 4294967295 1 ∷ []) ∷
-    instance (7 ∷ 7 ∷ []) (1 ∷ 2 ∷ []) 2 (accepted 1 3 53 0 0) (gap 0 6 3 ∷ answer 7 3 ∷ gap 8 4294967295 3 ∷ []) ∷
-    figure1 7 (accepted 0 3 57 10 1) (gap 0 8 9 ∷ gap 9 9 112 ∷ gap 10 4294967295 1 ∷ []) ∷
+    (gap 1 99 1 ∷ answer 100 3 ∷ gap 101 4294967295 3 ∷ []) ∷
+    instance (1 ∷ 2 ∷ 3 ∷ 4 ∷ 5 ∷ 6 ∷ []) (3 ∷ 6 ∷ []) 2 (accepted 0 2 38 2 0) (gap 1 3 2 ∷ gap 4 4294967295 1 ∷ []) ∷
+    instance (0 ∷ 4294967295 ∷ []) (2 ∷ []) 1 (accepted 1 2 34 0 0) (gap 1 4294967294 1 ∷ answer 4294967295 1 ∷ []) ∷
+    instance [] (0 ∷ []) 1 (accepted 0 1 19 0 0) (gap 1 4294967295 1 ∷ []) ∷
+    instance (7 ∷ 7 ∷ []) (1 ∷ 2 ∷ []) 2 (accepted 1 3 53 0 0) (gap 1 6 3 ∷ answer 7 3 ∷ gap 8 4294967295 3 ∷ []) ∷
+    figure1 7 (accepted 0 3 57 10 1) (gap 1 8 9 ∷ gap 9 9 112 ∷ gap 10 4294967295 1 ∷ []) ∷
     figure1 4 (accepted 1 6 110 12 1)
-    (gap 0 4 105 ∷ gap 5 8 31 ∷ answer 9 15 ∷ gap 10 10 15 ∷ gap 11 16 113 ∷ gap 17 4294967295 47 ∷ []) ∷
+    (gap 1 4 105 ∷ gap 5 8 31 ∷ answer 9 15 ∷ gap 10 10 15 ∷ gap 11 16 113 ∷ gap 17 4294967295 47 ∷ []) ∷
     []
 
 -- Between places 4 and 7 the halving place is 5. Rounded up it would be 6, and 5 probes in all.
 unfoldable pub roundedDown : Instance
 roundedDown =
     instance (10 ∷ 20 ∷ 30 ∷ 40 ∷ 50 ∷ 60 ∷ 70 ∷ 55 ∷ []) (7 ∷ 8 ∷ []) 2 (accepted 0 3 57 3 1)
-    (gap 0 54 2 ∷ gap 55 59 1 ∷ gap 60 4294967295 2 ∷ [])
+    (gap 1 54 2 ∷ gap 55 59 1 ∷ gap 60 4294967295 2 ∷ [])
 
 -- {10, 20, .., 160} and {115}, t = 2: one search, of 4 doubling and then 3 halving probes. Smaller allowances end it before, at and after its first halving probe.
 unfoldable pub longNumbers : List ℕ
@@ -88,7 +89,7 @@ unfoldable pub longEnds : List ℕ
 longEnds = 16 ∷ 17 ∷ []
 
 unfoldable pub longParts : List Part
-longParts = gap 0 114 2 ∷ gap 115 119 1 ∷ gap 120 4294967295 2 ∷ []
+longParts = gap 1 114 2 ∷ gap 115 119 1 ∷ gap 120 4294967295 2 ∷ []
 
 unfoldable pub probeKinds : List Instance
 probeKinds =
@@ -97,6 +98,17 @@ probeKinds =
     limited 5 longNumbers longEnds 2 (refused 7 1 0 19 4 1) (take 1 longParts) ∷
     limited 4 longNumbers longEnds 2 (refused 7 1 0 19 4 0) (take 1 longParts) ∷
     limited 3 longNumbers longEnds 2 (refused 7 1 0 19 3 0) (take 1 longParts) ∷
+    []
+
+-- Runs that begin with the unmapped mark: without it, the listing's and those of the instance before last; only it; and it twice, which does not rise. The
+-- allowances are just enough.
+unfoldable pub unmapped : List Instance
+unmapped =
+    limited 3 (0 ∷ 2 ∷ 5 ∷ 9 ∷ 0 ∷ 5 ∷ 7 ∷ 9 ∷ 12 ∷ 0 ∷ 1 ∷ 9 ∷ []) (4 ∷ 9 ∷ 12 ∷ []) 2 (accepted 2 6 106 3 0) listingParts ∷
+    limited 4 (0 ∷ 10 ∷ 20 ∷ 30 ∷ 40 ∷ 50 ∷ 60 ∷ 70 ∷ 55 ∷ []) (8 ∷ 9 ∷ []) 2 (accepted 0 3 57 3 1) (roundedDown .parts) ∷
+    limited 0 (0 ∷ 1 ∷ 0 ∷ 1 ∷ []) (2 ∷ 4 ∷ []) 2 (accepted 1 2 34 0 0) (answer 1 3 ∷ gap 2 4294967295 3 ∷ []) ∷
+    limited 0 (0 ∷ []) (1 ∷ []) 1 (accepted 0 1 19 0 0) (gap 1 4294967295 1 ∷ []) ∷
+    limited 0 (0 ∷ 0 ∷ 5 ∷ []) (3 ∷ []) 1 (refused 4 1 0 0 0 0) [] ∷
     []
 
 -- A call with many questions, so many places lent for answers, certificate bytes and results, all zeros before the call; and what it returns and writes.
@@ -129,11 +141,11 @@ expectedMany i =
 
 -- the parts over the first and second run with t = 2, and over the first and third with t = 1
 unfoldable pub firstTwoParts : List Part
-firstTwoParts = gap 0 4 2 ∷ answer 5 3 ∷ gap 6 8 1 ∷ answer 9 3 ∷ gap 10 4294967295 1 ∷ []
+firstTwoParts = gap 1 4 2 ∷ answer 5 3 ∷ gap 6 8 1 ∷ answer 9 3 ∷ gap 10 4294967295 1 ∷ []
 
 unfoldable pub othersParts : List Part
 othersParts =
-    gap 0 0 5 ∷ answer 1 4 ∷ answer 2 1 ∷ gap 3 4 5 ∷ answer 5 1 ∷ gap 6 8 5 ∷ answer 9 5 ∷ gap 10 4294967295 5 ∷ []
+    answer 1 4 ∷ answer 2 1 ∷ gap 3 4 5 ∷ answer 5 1 ∷ gap 6 8 5 ∷ answer 9 5 ∷ gap 10 4294967295 5 ∷ []
 
 -- three questions over the runs of the listing with an allowance, and buffers large enough
 unfoldable pub threeQuestions : ℕ → ManyOutcome → List Part → List ℕ → ManyInstance
@@ -205,11 +217,11 @@ longTwice allowance o ps rs =
 
 unfoldable pub manyQuestions : List ManyInstance
 manyQuestions =
-    threeQuestions 5 (all-accepted 8 19 329 5 0) (listingParts ++ (firstTwoParts ++ othersParts)) (2 ∷ 106 ∷ 4 ∷ 193 ∷ 8 ∷ 329 ∷ []) ∷
+    threeQuestions 5 (all-accepted 8 18 310 5 0) (listingParts ++ (firstTwoParts ++ othersParts)) (2 ∷ 106 ∷ 4 ∷ 193 ∷ 8 ∷ 310 ∷ []) ∷
     threeQuestions 3 (refused-in 1 7 1 2 7 125 3 0) (listingParts ++ take 1 firstTwoParts) (2 ∷ 106 ∷ []) ∷
     threeQuestions 4 (refused-in 1 7 3 3 9 159 4 0) (listingParts ++ take 3 firstTwoParts) (2 ∷ 106 ∷ []) ∷
-    twoQuestions 3 340 (refused-in 1 5 3 3 9 159 3 0) (listingParts ++ (gap 0 0 6 ∷ answer 1 4 ∷ gap 2 4 6 ∷ [])) ∷
-    twoQuestions 9 130 (refused-in 1 6 1 2 7 125 3 0) (listingParts ++ (gap 0 0 6 ∷ [])) ∷
+    twoQuestions 3 340 (refused-in 1 5 2 3 8 140 3 0) (listingParts ++ (answer 1 4 ∷ gap 2 4 6 ∷ [])) ∷
+    twoQuestions 9 130 (refused-in 1 6 1 3 7 121 3 0) (listingParts ++ (answer 1 4 ∷ [])) ∷
     refusedMany (7 ∷ 8 ∷ []) (2 ∷ 1 ∷ []) 4 (refused-in 1 13 1 0 0 0 0 0) ∷
     refusedMany (7 ∷ 0 ∷ []) (2 ∷ 1 ∷ []) 4 (refused-in 1 13 1 0 0 0 0 0) ∷
     refusedMany (7 ∷ 0 ∷ []) (4 ∷ 1 ∷ []) 4 (refused-in 0 2 3 0 0 0 0 0) ∷
@@ -221,9 +233,36 @@ manyQuestions =
     longTwice 12 (refused-in 1 7 1 0 4 76 8 4) (longParts ++ take 1 longParts) (0 ∷ 57 ∷ []) ∷
     []
 
+-- one question over each of two runs that begin with the unmapped mark, and one over both
+unfoldable pub unmappedMany : ManyInstance
+unmappedMany =
+    record {
+      numbers = 0 ∷ 4 ∷ 0 ∷ 4 ∷ 6 ∷ [];
+      ends = 2 ∷ 5 ∷ [];
+      masks = 1 ∷ 2 ∷ 3 ∷ [];
+      thresholds = 1 ∷ 1 ∷ 2 ∷ [];
+      allowance = 0;
+      answers = 4;
+      bytes = 200;
+      results = 6;
+      outcome = all-accepted 4 11 193 0 0;
+      parts =
+          gap 1 3 1 ∷ answer 4 1 ∷ gap 5 4294967295 1 ∷
+          gap 1 3 2 ∷ answer 4 2 ∷ gap 5 5 2 ∷ answer 6 2 ∷ gap 7 4294967295 2 ∷
+          gap 1 3 3 ∷ answer 4 3 ∷ gap 5 4294967295 1 ∷ [];
+      reached = 1 ∷ 53 ∷ 3 ∷ 140 ∷ 4 ∷ 193 ∷ [];
+    }
+
 -- The claims: each instance is answered as expected.
 pub record AsExpected (is : List Instance) : Type 0 where
   pub same : map asked is ≡ map expected is
 
 pub record ManyAsExpected (is : List ManyInstance) : Type 0 where
   pub same : map askedMany is ≡ map expectedMany is
+
+-- A part between two numbers never shows an unmapped mark, and a certificate that begins at bin 0 is refused.
+pub record Unmapped : Type 0 where
+  pub shown : between 0 3 (0 ∷ 3 ∷ 5 ∷ []) ≡ 3 ∷ []
+  pub not-shown : between 0 0 (0 ∷ 3 ∷ 5 ∷ []) ≡ []
+  pub from-1 : check listingNumbers listingEnds 2 (encode listingParts) ≡ valid 2 6
+  pub from-0 : check listingNumbers listingEnds 2 (encode (gap 0 1 3 ∷ drop 1 listingParts)) ≡ invalid 9 0 0 0

@@ -11,7 +11,7 @@ use lib.ListN.{length, drop}
 use Rattle.model.specs.Certificate.{Part, answer, gap, firstOf, lastOf, answersOf, encode, sizeOf, unreadable, read, readField}
 use Rattle.model.specs.Compared.{wholeWalk, partsOf, doublingsOf, halvingsOf}
 use Rattle.model.specs.Between.{within}
-use Rattle.model.specs.Runs.{Run, firstBin, pastBin, runs, unrisen, holds, maskOfAll, names, chosen, mostRuns, mostNumbers}
+use Rattle.model.specs.Runs.{Run, firstBin, pastBin, slice, runs, unrisen, holds, maskOfAll, names, chosen, mostRuns, mostNumbers}
 use Rattle.model.specs.Walk.{Event, sought, doubled, halved, wrote}
 
 -- A check is passed or is refused with the refusal's number and place. Checks are made in order, and the first one met decides.
@@ -42,10 +42,10 @@ unfoldable pub lastEnd : ℕ → List ℕ → ℕ
 lastEnd b [] = b
 lastEnd b (e ∷ ends) = lastEnd e ends
 
--- A number is not above the one before it in its run: its index in the row, the first such. (Here: the first run starts at index a.)
-unfoldable pub unrisenIn : ℕ → List Run → Option ℕ
-unrisenIn a [] = none
-unrisenIn a (r ∷ rs) = elim (unrisen a (r .bins)) [ some i ↦ some i | none ↦ unrisenIn (a + length (r .bins)) rs ]
+-- A number is not above the one before it in its run, as it is lent: its index in the row, the first such. (Here: the first run starts at index a.)
+unfoldable pub unrisenIn : ℕ → List ℕ → List ℕ → Option ℕ
+unrisenIn a numbers [] = none
+unrisenIn a numbers (e ∷ ends) = elim (unrisen a (slice numbers a e)) [ some i ↦ some i | none ↦ unrisenIn e numbers ends ]
 
 -- The first checks, those of the door, in pieces. 1: k is 0 or above 64, place k.
 unfoldable pub countCheck : List ℕ → Check
@@ -60,7 +60,7 @@ unfoldable pub listChecks : List ℕ → List ℕ → Check
 listChecks numbers ends =
     refuseAt 3 (fallsFrom 0 0 ends) then
     refuseIf (not (eqb (lastEnd 0 ends) (length numbers)) || ltb mostNumbers (length numbers)) 3 (length ends) then
-    refuseAt 4 (unrisenIn 0 (runs numbers ends))
+    refuseAt 4 (unrisenIn 0 numbers ends)
 
 -- 13: a mask that is to choose runs is zero or names a run not below k.
 unfoldable pub maskCheck : ℕ → ℕ → ℕ → Check

@@ -13,12 +13,7 @@ pub data Rise : ℕ → List ℕ → Type 0 where
   rise-nil : {a : ℕ} → Rise a []
   rise-cons : {a x : ℕ} {s : List ℕ} → a ≤ x → x < pastBin → Rise (suc x) s → Rise a (x ∷ s)
 
--- the numbers of a list from v on
-unfoldable pub from : ℕ → List ℕ → List ℕ
-from v [] = []
-from v (x ∷ s) = elim (ltb x v) [ true ↦ from v s | false ↦ x ∷ s ]
-
--- how many numbers stand before those; Barbay and Kenyon's insertion rank less one
+-- how many numbers of a list stand before those from v on; Barbay and Kenyon's insertion rank less one
 unfoldable pub rank : ℕ → List ℕ → ℕ
 rank v [] = 0
 rank v (x ∷ s) = elim (ltb x v) [ true ↦ suc (rank v s) | false ↦ 0 ]

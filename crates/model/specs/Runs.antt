@@ -6,9 +6,10 @@ use mathlib.Core.Option.{Option, none, some}
 use lib.ListN.{take, drop}
 use lib.Dec.{ltb, leb, eqb}
 
--- A bin is a whole number from 0 to 4294967295: the first, the last, and the number after the last.
+-- A bin is a whole number from 1 to 4294967295: the first, the last, and the number after the last. 0 is no bin: it is the unmapped mark, which simulators
+-- write for a hit that they could not map.
 unfoldable pub firstBin : ℕ
-firstBin = 0
+firstBin = 1
 
 unfoldable pub lastBin : ℕ
 lastBin = 4294967295
@@ -23,7 +24,8 @@ mostRuns = 64
 abbrev pub mostNumbers : ℕ
 mostNumbers = 1048576
 
--- A run is one rising list of bins. The label is its number; where a walk has moved on, the bins are those from the run's position on.
+-- A run is one rising list. The label is its number; the bins are those of its numbers that are bins and, where a walk has moved on, those from the run's
+-- position on.
 pub record Run : Type 0 where
   pub label : ℕ
   pub bins : List ℕ
@@ -32,11 +34,17 @@ pub record Run : Type 0 where
 abbrev pub slice : List ℕ → ℕ → ℕ → List ℕ
 slice numbers start end = take (end - start) (drop start numbers)
 
--- Run 0 starts at place 0, and run i starts at the end of run i − 1. (Here: the runs from label i on, the first of them from place a on.)
+-- the numbers of a list from v on: those at its start that are below v are passed over
+unfoldable pub from : ℕ → List ℕ → List ℕ
+from v [] = []
+from v (x ∷ s) = elim (ltb x v) [ true ↦ from v s | false ↦ x ∷ s ]
+
+-- Run 0 starts at place 0, and run i starts at the end of run i − 1. A 0 at the start of a run is passed over. (Here: the runs from label i on, the first of
+-- them from place a on.)
 unfoldable pub runsFrom : ℕ → ℕ → List ℕ → List ℕ → List Run
 runsFrom i a numbers [] = []
 runsFrom i a numbers (e ∷ ends) =
-    record { label = i; bins = slice numbers a e } ∷ runsFrom (suc i) e numbers ends
+    record { label = i; bins = from firstBin (slice numbers a e) } ∷ runsFrom (suc i) e numbers ends
 
 unfoldable pub runs : List ℕ → List ℕ → List Run
 runs numbers ends = runsFrom 0 0 numbers ends

@@ -7,10 +7,10 @@ use native.Mathlib.Omega.{arith}
 use Rattle.model.specs.Compared.{wholeWalk}
 use Rattle.model.specs.Demands.{Fits}
 use Rattle.model.specs.Rows.{Rise}
-use Rattle.model.specs.Runs.{Run, pastBin, runs, chosen}
+use Rattle.model.specs.Runs.{Run, firstBin, pastBin, runs, chosen}
 use Rattle.model.specs.Walk.{walk}
-use Rattle.model.proofs.Exact.{first-least}
 use Rattle.model.proofs.FirstChecks.{chosen-passed, runs-rising}
+use Rattle.model.proofs.Unmapped.{first-is}
 use Rattle.model.proofs.Walking.{map-mem}
 use Rattle.walk_progress.specs.Progress.{onward}
 use Rattle.walk_write.specs.Writes.{countsOf, goesOn, Fitted}
@@ -26,21 +26,22 @@ use Rattle.walk_state.specs.State.{runsAt, chosenAt, Holds, Idle}
 
 -- the state before the first round
 abbrev pub firstState : ℕ → ℕ → ℕ → ℕ → State
-firstState start answered written tally = record { floor = 0; start = start; answers = answered; parts = 0; bytes = written; tally = tally }
+firstState start answered written tally = record { floor = 1; start = start; answers = answered; parts = 0; bytes = written; tally = tally }
 
 module _ (numbers ends : List ℕ) (m t : ℕ) (positions keys A B : List ℕ) (answered written tally : ℕ)
     (b : Begins numbers ends m t positions keys A B answered written tally) where
   pub begin-ready : BeginReady numbers ends positions × (m < 2 ^ length ends) × (length keys ≡ length ends)
   begin-ready =
       let p = chosen-passed numbers ends m t (b .asked .checked) in
-      (record { few = p .few-runs; rise = p .lists .ends-rise; last = p .lists .ends-last; size = b .positions-size }, p .only, b .keys-size)
+      (record { few = p .few-runs; rise = p .lists .ends-rise; last = p .lists .ends-last; risen = p .lists .numbers-rise; size = b .positions-size }, p .only, b .keys-size)
 
   module _ (fits : Fits pastBin numbers) (positions′ keys′ : List ℕ) (start : ℕ) (h : Holds numbers ends positions′ keys′ start (map (standing m) (runs numbers ends))) where
-    rising : (r : Run) → List·Memᴰ r (runsAt 0 numbers positions′ ends) → Rise 0 (r .bins)
+    rising : (r : Run) → List·Memᴰ r (runsAt 0 numbers positions′ ends) → Rise 1 (r .bins)
     rising r i =
         let p = chosen-passed numbers ends m t (b .asked .checked) in
         let q = map-mem (standing m) (runs numbers ends) r (subst (λ x. List·Memᴰ r x) (h .runs-are) i) in
-        subst (λ (x : Run). Rise 0 (x .bins)) (sym (q .2)) (standing-rises m 0 (q .0) (runs-rising numbers ends fits (p .lists) .each (q .0) (q .1)))
+        let s = standing-rises m firstBin (q .0) (runs-rising numbers ends fits (p .lists) .each (q .0) (q .1)) in
+        subst (λ x. Rise x (r .bins)) first-is (subst (λ (x : Run). Rise firstBin (x .bins)) (sym (q .2)) s)
 
     pub stands-first : Stands numbers ends positions′ keys′ t (firstState start answered written tally) × Chooses m numbers ends positions′ t
         × Fitted A B (firstState start answered written tally)
@@ -58,7 +59,7 @@ module _ (numbers ends : List ℕ) (m t : ℕ) (positions keys A B : List ℕ) (
           record { answered = b .asked .answers-fit; written = b .asked .bytes-fit; parts = omega arith },
         )
 
-    -- the chosen runs are at their first numbers
+    -- the chosen runs are at their first bins
     chosen-first : chosen m (runs numbers ends) ≡ chosenAt m numbers positions′ ends
     chosen-first = sym (ap (chosen m) (h .runs-are) ∙ standing-chosen m (runs numbers ends))
 
@@ -69,6 +70,6 @@ module _ (numbers ends : List ℕ) (m t : ℕ) (positions keys A B : List ℕ) (
         record {
           left-then = f .left;
           as-asked = λ allowance l.
-              (λ i. onward allowance (countsFrom allowance answered written tally) A B (walk pastBin t (first-least i) (chosen-first i)))
+              (λ i. onward allowance (countsFrom allowance answered written tally) A B (walk pastBin t (first-is i) (chosen-first i)))
               ∙ f .comes-to allowance pastBin l (omega arith);
         }

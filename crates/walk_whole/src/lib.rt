@@ -1,4 +1,4 @@
-// The walk over chosen runs from its beginning to its end (docs/SPECIFICATION.md, 'The walk'): each of them at its first number, then the rounds.
+// The walk over chosen runs from its beginning to its end (docs/SPECIFICATION.md, 'The walk'): each of them at its first bin, then the rounds.
 ghost use Rattle.walk_whole.specs.Whole.{Asked, Begins, ComesTo};
 use walk_rounds::End;
 use walk_write::State;
@@ -21,7 +21,7 @@ fn whole_walk(
     requires { ⌜ Begins (now numbers) (now ends) chosen threshold (now positions) (now keys) (now answers) (now certificate) answered written tally ⌝ }
     ensures { λ r. ⌜ ComesTo (now (numbers .entry)) (now (ends .entry)) chosen threshold answered written tally (now (answers .entry)) (now (certificate .entry)) (now (answers .exit)) (now (certificate .exit)) r ⌝ }
 {
-    let start = walk_step::begin(numbers, ends, chosen, positions, keys);
+    let start = walk_begin::begin(numbers, ends, chosen, positions, keys);
     walk_rounds::all_rounds(
         numbers,
         ends,
@@ -32,7 +32,7 @@ fn whole_walk(
         answers,
         certificate,
         State {
-            floor: 0,
+            floor: limits::FIRST_BIN,
             start: start,
             answers: answered,
             parts: 0,

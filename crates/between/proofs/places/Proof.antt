@@ -3,12 +3,14 @@
 use borrow.Author.Needs.{needs}
 use denote.Ref.{now}
 use mathlib.Core.Option.{none}
-use mathlib.Core.Path.{_≡_, sym, ap, _∙_}
+use mathlib.Core.Path.{_≡_, sym, ap, ap₂, _∙_}
 use native.Mathlib.Omega.{arith}
 use Rattle.model.specs.Rows.{Rise}
 use Rattle.rising.specs.Found.{foundPlace}
-use Rattle.model.specs.Runs.{pastBin, unrisen}
+use Rattle.model.specs.Runs.{firstBin, pastBin, unrisen}
 use Rattle.model.proofs.FirstChecks.{fits, risen}
+use Rattle.model.proofs.Unmapped.{first-is}
+use Rattle.arith.specs.Order.{greater}
 use Rattle.between.proofs.Parts.{between-none, between-unrisen, spans-none, spans-ranks}
 use Rattle.between.proofs.places.Statement.{statement}
 use Rattle.between.proofs.places.Tie as tie
@@ -35,8 +37,14 @@ enum-told c = search needs
 u64-of-u32-requires : tie.Need-u64-of-u32-requires
 u64-of-u32-requires c κs = search needs
 
+cast-greater : tie.Need-cast-greater
+cast-greater c = search needs
+
+greater-requires : tie.Need-greater-requires
+greater-requires c κs = search needs
+
 first-at-least-requires : tie.Need-first-at-least-requires
-first-at-least-requires c κs = rise (c .before)
+first-at-least-requires c κs = rise (c .before .before)
 
 u64-of-u32-requires-2 : tie.Need-u64-of-u32-requires-2
 u64-of-u32-requires-2 c κs = search needs
@@ -45,14 +53,16 @@ add-first-at-least : tie.Need-add-first-at-least
 add-first-at-least c = search needs
 
 first-at-least-requires-2 : tie.Need-first-at-least-requires-2
-first-at-least-requires-2 c κs = rise (c .before .before .before)
+first-at-least-requires-2 c κs = rise (c .before .before .before .before)
 
 returns-2 : tie.Need-returns-2
 returns-2 c =
-    let at = c .before .before .before .before in
-    let a = c .before .before .before .before .before .before .before .before .before .args in
-    rw (c .first-at-least2 .ensures, c .before .u64-of-u322 .ensures, c .before .before .first-at-least .ensures, c .before .before .before .u64-of-u32 .ensures)
-    (spans-ranks (a .first) (a .last) (a .list .now) (omega arith) (risen-there at) (rise at))
+    let g = c .before .before .before in
+    let told = g .before .before in
+    let a = told .before .before .before .before .before .args in
+    let b : greater (g .before .u64-of-u32 .result) 1 ≡ greater (a .first) firstBin = ap₂ greater (g .before .u64-of-u32 .ensures) (sym first-is) in
+    rw (c .first-at-least2 .ensures, c .before .u64-of-u322 .ensures, c .before .before .first-at-least .ensures, g .greater .ensures, b)
+    (spans-ranks (a .first) (a .last) (a .list .now) (omega arith) (risen-there told) (rise told))
 
 enum-told-2 : tie.Need-enum-told-2
 enum-told-2 c = search needs
@@ -72,6 +82,8 @@ places-spec =
     first-unrisen-requires
     enum-told
     u64-of-u32-requires
+    cast-greater
+    greater-requires
     first-at-least-requires
     u64-of-u32-requires-2
     add-first-at-least

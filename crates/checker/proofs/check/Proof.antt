@@ -5,7 +5,7 @@ use Rattle.first_checks.specs.Checked.{checkOf}
 use Rattle.model.proofs.FirstChecks.{fits, all-chosen-checks}
 use Rattle.model.specs.Demands.{Fits}
 use Rattle.model.specs.Refusals.{passed, firstChecks, chosenChecks, checkFrom}
-use Rattle.model.specs.Runs.{runs, chosen}
+use Rattle.model.specs.Runs.{firstBin, runs, chosen}
 use Rattle.checker.proofs.Accepting.{few-runs, all-refused, all-judged}
 use borrow.Author.Needs.{needs}
 use Rattle.checker.proofs.check.Statement.{statement}
@@ -56,7 +56,7 @@ returns-2 c =
     let a = u .before .before .before .before .args in
     all-judged (a .numbers .now) (a .ends .now) (a .threshold) (a .certificate .now) (fits-bytes (u .before)) _ (has-passed p)
     (c .check-passed .ensures
-    ∙ ap (λ m. checkFrom (length (a .certificate .now)) (chosen m (runs (a .numbers .now) (a .ends .now))) (a .threshold) 0 0 (a .certificate .now)) (r .all-runs .ensures))
+    ∙ ap (λ m. checkFrom (length (a .certificate .now)) (chosen m (runs (a .numbers .now) (a .ends .now))) (a .threshold) firstBin 0 (a .certificate .now)) (r .all-runs .ensures))
 
 pub check-spec : {M : Type 1} → statement M
 check-spec =

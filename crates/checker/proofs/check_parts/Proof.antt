@@ -19,6 +19,9 @@ abbrev μ-loop : tie.MeasureT-loop
 μ-loop numbers ends mask threshold few cursors₀ certificate bin₀ at₀ answers₀ parts₀ cursors bin at answers parts =
     length certificate - at
 
+cast-bin : tie.Need-cast-bin Inv-loop μ-loop
+cast-bin c = search needs
+
 loop-holds : tie.Need-loop-holds Inv-loop μ-loop
 loop-holds c =
     let s = c .before .before .before .before in
@@ -131,6 +134,7 @@ check-parts-spec =
     (tie.spec
     Inv-loop
     μ-loop
+    cast-bin
     loop-holds
     read-field-requires
     enum-known-part

@@ -5,7 +5,7 @@ use native.Mathlib.Omega.{arith}
 use Rattle.model.proofs.FirstChecks.{fits, ChosenPassed, chosen-passed}
 use Rattle.model.specs.Demands.{Fits}
 use Rattle.model.specs.Refusals.{checkFrom}
-use Rattle.model.specs.Runs.{pastBin, runs, chosen}
+use Rattle.model.specs.Runs.{firstBin, pastBin, runs, chosen}
 use Rattle.check_cursor.proofs.Moving.{bin-fits}
 use Rattle.check_cursor.proofs.Placing.{begins}
 use Rattle.checker.proofs.Accepting.{choice}
@@ -61,7 +61,7 @@ returns c =
     let u = c .before .before .before in
     let a = u .before .before .before .before .before .before .args in
     c .before .check-all .ensures
-    ∙ ap (λ t. checkFrom (length (a .certificate .now)) (chosen (a .mask) (runs (a .numbers .now) (a .ends .now))) t 0 0 (a .certificate .now)) (u .before .before .usize-of-u32 .ensures)
+    ∙ ap (λ t. checkFrom (length (a .certificate .now)) (chosen (a .mask) (runs (a .numbers .now) (a .ends .now))) t firstBin 0 (a .certificate .now)) (u .before .before .usize-of-u32 .ensures)
 
 pub check-passed-spec : {M : Type 1} → statement M
 check-passed-spec =

@@ -7,7 +7,7 @@ use mathlib.Core.Option.{Option}
 use mathlib.Core.Path.{_≡_, refl, sym, ap, _∙_}
 use native.Mathlib.Omega.{arith}
 use Rattle.model.specs.Refusals.{unrisenIn}
-use Rattle.model.specs.Runs.{runsFrom, runs, unrisen}
+use Rattle.model.specs.Runs.{unrisen}
 use Rattle.rising.specs.Found.{foundPlace}
 use Rattle.model.proofs.Slices.{part-length}
 use Rattle.first_checks.proofs.Laws.{Ordered, next-end, next-ordered, runs-at, runs-on, runs-end}
@@ -18,7 +18,7 @@ use Rattle.first_checks.proofs.unrisen_number.Tie as tie
 record Here (numbers ends : List ℕ) (start i : ℕ) : Type 0 where
   bound : i ≤ length ends
   ordered : Ordered numbers ends start i
-  same : unrisenIn 0 (runs numbers ends) ≡ unrisenIn start (runsFrom i start numbers (drop i ends))
+  same : unrisenIn 0 numbers ends ≡ unrisenIn start numbers (drop i ends)
 
 -- what holds of the run up to an end holds of the run up to the number that this end equals
 part-is : (numbers : List ℕ) (a : ℕ) {x y : ℕ} {o : Option ℕ} → x ≡ y → unrisen a (take (x - a) (drop a numbers)) ≡ o
@@ -32,7 +32,6 @@ abbrev μ-loop : tie.MeasureT-loop
 μ-loop numbers ends start₀ i₀ start i = length ends - i
 
 loop-holds : tie.Need-loop-holds Inv-loop μ-loop
-unfolding runs
 loop-holds c = record { bound = omega arith; ordered = record { rise = c .before .before .pre .0; last = c .before .before .pre .1 }; same = refl }
 
 mul-usize-of-u32 : tie.Need-mul-usize-of-u32 Inv-loop μ-loop
@@ -105,7 +104,7 @@ loop-again c =
     record {
       bound = omega arith;
       ordered = rw w (next-ordered (a .numbers .now) (a .ends .now) (l .loop .start) (l .loop .i) h (l .loop .inv .ordered));
-      same = l .loop .inv .same ∙ (runs-on (a .numbers .now) (a .ends .now) (l .loop .start) (l .loop .i) h (l .loop .inv .ordered)
+      same = l .loop .inv .same ∙ (runs-on (a .numbers .now) (a .ends .now) (l .loop .start) (l .loop .i) h
           (part-is (a .numbers .now) (l .loop .start) w (sym (u .first-unrisen .ensures) ∙ ap foundPlace (c .enum-told .given .1))) ∙ rw w);
     }
 
