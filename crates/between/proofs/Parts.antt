@@ -98,10 +98,11 @@ within-bins first last s r h =
     let f = first-is in
     ⊎-elim
     (λ (q : first < firstBin).
-    rw (greater-below first firstBin q)
-    (omega arith,
-    within-rise first last firstBin (omega arith) (omega arith) (rise-from firstBin s r) (omega arith)
-    ∙ within-passed firstBin last firstBin s (omega arith) (omega arith)))
+    rw (greater-below first firstBin q) (
+      omega arith,
+      within-rise first last firstBin (omega arith) (omega arith) (rise-from firstBin s r) (omega arith)
+          ∙ within-passed firstBin last firstBin s (omega arith) (omega arith),
+    ))
     (λ (q : firstBin ≤ first). rw (greater-from first firstBin q) (omega arith, within-passed first last firstBin s (omega arith) q))
     (lt-or-le first firstBin)
 
