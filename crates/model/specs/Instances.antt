@@ -100,8 +100,8 @@ probeKinds =
     limited 3 longNumbers longEnds 2 (refused 7 1 0 19 3 0) (take 1 longParts) ∷
     []
 
--- Runs that begin with the unmapped mark: without it, the listing's and those of the instance before last; only it; and it twice, which does not rise. The
--- allowances are just enough.
+-- Runs that begin with the unmapped mark: those of the listing, and the long one of roundedDown, with it in front; two that have one bin each; one that has none; and
+-- one with two marks, which does not rise. The allowances are just enough.
 unfoldable pub unmapped : List Instance
 unmapped =
     limited 3 (0 ∷ 2 ∷ 5 ∷ 9 ∷ 0 ∷ 5 ∷ 7 ∷ 9 ∷ 12 ∷ 0 ∷ 1 ∷ 9 ∷ []) (4 ∷ 9 ∷ 12 ∷ []) 2 (accepted 2 6 106 3 0) listingParts ∷
