@@ -1,11 +1,16 @@
 /*
  * quorum.h: which bins do at least t of k runs hold?
  *
- * A bin is a 32-bit number, a run a rising list of bins. All runs lie one after
- * another in `numbers`; `ends[i]` is the place after the last number of run i,
- * so `ends_len` is the number of runs. Ends are ends and not offsets from 0:
- * runs of 3, 4 and 2 numbers have ends 3, 7, 9, and not 0, 3, 7. A run may be
- * empty. Bit i of a 64-bit mask names run i, bit 0 being the lowest.
+ * A bin is a number from 1 to 4294967295, a run a rising list of bins. All runs
+ * lie one after another in `numbers`; `ends[i]` is the place after the last
+ * number of run i, so `ends_len` is the number of runs. Ends are ends and not
+ * offsets from 0: runs of 3, 4 and 2 numbers have ends 3, 7, 9, and not 0, 3, 7.
+ * A run may be empty. Bit i of a 64-bit mask names run i, bit 0 being the lowest.
+ *
+ * A run may begin with a 0, the mark of a hit that could not be mapped. It is no
+ * bin: it is passed over without a probe, is never an answer, and no certificate
+ * speaks of it. It is one of the `numbers`, and counts in ends, in places and
+ * towards QUORUM_MAX_NUMBERS. A second 0 does not rise and is refusal 4.
  *
  * docs/SPECIFICATION.md says whole what each call does with any input.
  *
@@ -28,10 +33,10 @@
  *    tag 2, length 16: a gap: first (4), last (4), mask (8) of runs with no
  *                      number from first to last
  *
- * It is true if its parts cover 0 to QUORUM_LAST_BIN in order with no hole and no
- * overlap, each answer names at least `threshold` runs, each gap names at least
- * `ends_len - threshold + 1`, and what it says of each named run holds. An
- * answer that quorum_query writes names all the runs that hold it.
+ * It is true if its parts cover QUORUM_FIRST_BIN to QUORUM_LAST_BIN in order with
+ * no hole and no overlap, each answer names at least `threshold` runs, each gap
+ * names at least `ends_len - threshold + 1`, and what it says of each named run
+ * holds. An answer that quorum_query writes names all the runs that hold it.
  * examples/query.c has a decoder of the fields to copy.
  *
  * A question may be about some of the runs, which a mask chooses. Its
@@ -50,12 +55,13 @@ extern "C" {
 
 /** The version. While the major number is 0, a higher minor one may change calls. */
 #define QUORUM_VERSION_MAJOR 0
-#define QUORUM_VERSION_MINOR 3
+#define QUORUM_VERSION_MINOR 4
 #define QUORUM_VERSION_PATCH 0
 
-/** The limits: runs, numbers of all runs together, and the last bin. */
+/** The limits: runs, numbers of all runs together, the first and the last bin. */
 #define QUORUM_MAX_RUNS 64
 #define QUORUM_MAX_NUMBERS 1048576
+#define QUORUM_FIRST_BIN 1u
 #define QUORUM_LAST_BIN 4294967295u
 
 /**
@@ -127,9 +133,9 @@ enum {
      */
     QUORUM_BAD_FIELD = 8,
     /**
-     * A part does not begin at the next uncovered bin, its last is below its
-     * first, or nothing is uncovered. Or, at the end, a bin is still uncovered;
-     * place: the certificate's length.
+     * A part does not begin at the next uncovered bin (the first part at 1), its
+     * last is below its first, or nothing is uncovered. Or, at the end, a bin is
+     * still uncovered; place: the certificate's length.
      */
     QUORUM_NOT_COVERING = 9,
     /** A part names a run that does not exist or is not chosen, or too few runs. */
@@ -200,11 +206,11 @@ enum {
  * tell of long jumps: runs that lie far apart, or of which most is passed over.
  * Many halvings tell of jumps that went too far and had to be narrowed down.
  *
- * The allowance is held against the sum of both kinds. In a run whose length has
- * b binary digits (an empty run has 0) that sum is at most 2 * d * b, d being the
- * number of parts of any true certificate; quorum_probe_bound() adds these up. If
- * nothing is known of d, take QUORUM_ENOUGH_PROBES. After refusal 7 the sum is the
- * allowance: the probes of the search that was cut short are among them.
+ * The allowance is held against the sum of both kinds. In a run whose number of
+ * bins has b binary digits (no bins have 0) that sum is at most 2 * d * b, d being
+ * the number of parts of any true certificate; quorum_probe_bound() adds these up.
+ * If nothing is known of d, take QUORUM_ENOUGH_PROBES. After refusal 7 the sum is
+ * the allowance: the probes of the search that was cut short are among them.
  *
  * Cost: one pass over the numbers for the first checks, then the probes, and the
  * writing of the certificate, which has the fewest parts of all true ones.
@@ -263,8 +269,8 @@ void quorum_query(const uint32_t *numbers, size_t numbers_len,
  *     quorum_query_many(numbers, 9, ends, 3, masks, 3, thresholds, 3,
  *                       3 * QUORUM_ENOUGH_PROBES, many_answers, 27,
  *                       certificates, sizeof certificates, results, 6, many);
- *     // many: 0, 0, 0, 8, 19, 329, 5, 0; many_answers: 5, 9, 5, 9, 1, 2, 5, 9
- *     // results: 2, 106, 4, 193, 8, 329
+ *     // many: 0, 0, 0, 8, 18, 310, 5, 0; many_answers: 5, 9, 5, 9, 1, 2, 5, 9
+ *     // results: 2, 106, 4, 193, 8, 310
  */
 void quorum_query_many(const uint32_t *numbers, size_t numbers_len,
                        const uint32_t *ends, size_t ends_len,
@@ -282,6 +288,9 @@ void quorum_query_many(const uint32_t *numbers, size_t numbers_len,
  * `result` receives refusal and place, then the certificate's answers and parts,
  * both 0 on a refusal. Each field is settled before the next, so the refusal is
  * that of the first wrong one.
+ *
+ * A certificate that begins at bin 0 is refusal 9 at place 0, whoever wrote it, and
+ * so is a stored one: nothing in it tells its age. Ask again for a new one.
  *
  * Cost: one pass over the numbers for the first checks, then at most
  * numbers + parts * runs steps.
@@ -305,7 +314,8 @@ void quorum_check(const uint32_t *numbers, size_t numbers_len,
  * quorum_check.
  *
  * `result` receives refusal and place, then the certificate's answers and parts,
- * both 0 on a refusal, as quorum_check.
+ * both 0 on a refusal, as quorum_check. A certificate that begins at bin 0 is
+ * refusal 9 at place 0 here too.
  *
  * Cost: one pass over the numbers for the first checks, then at most the numbers
  * of the chosen runs + parts * runs steps.
@@ -324,12 +334,12 @@ void quorum_check_chosen(const uint32_t *numbers, size_t numbers_len,
                          uint64_t result[QUORUM_CHECK_ROW]);
 
 /**
- * Find the numbers of one list from `first` to `last`, both included.
+ * Find the bins of one list from `first` to `last`, both included.
  *
  * `part` receives the place of the first of them and the place after the last:
  * list[part[0]] to list[part[1] - 1]. The two are equal if there are none, if
- * `first` is above `last` or if the list does not rise. The list may have any
- * length.
+ * `first` is above `last` or if the list does not rise. A 0 at the start of the
+ * list is never shown, whatever `first` is. The list may have any length.
  *
  * Cost: one pass over the list and two searches.
  *
@@ -339,6 +349,9 @@ void quorum_check_chosen(const uint32_t *numbers, size_t numbers_len,
  *     uint64_t part[QUORUM_BETWEEN_ROW];
  *     quorum_between(list, 3, 3, 9, part);
  *     // part: 1, 3
+ *     uint32_t marked[] = {0, 3, 5};
+ *     quorum_between(marked, 3, 0, 3, part);
+ *     // part: 1, 2
  */
 void quorum_between(const uint32_t *list, size_t list_len, uint32_t first,
                     uint32_t last, uint64_t part[QUORUM_BETWEEN_ROW]);
@@ -348,6 +361,10 @@ void quorum_between(const uint32_t *list, size_t list_len, uint32_t first,
  * true certificate has so many parts, an allowance of this many probes is enough:
  * refusal 7 never occurs. A sum above QUORUM_ENOUGH_PROBES, which may not fit the
  * 32 bits of an allowance, can be cut down to that.
+ *
+ * The length is that of the numbers as lent, a 0 at the start among them, for the
+ * ends tell no more. So the sum may be above that over the runs' bins, and is
+ * never below it.
  *
  * `result` receives refusal and place, and the bound, 0 on a refusal: 1 and 3 as
  * above, but for the numbers' length, which this call does not see.
@@ -367,8 +384,8 @@ void quorum_probe_bound(const uint32_t *ends, size_t ends_len, uint32_t parts,
  * Sum up 2 * parts * (binary digits of the run's length) over the runs that `mask`
  * chooses. If some true certificate of the chosen runs has so many parts, a
  * question about them makes no more probes; an allowance of the sum over all
- * questions is enough for quorum_query_many. With all runs chosen this is
- * quorum_probe_bound.
+ * questions is enough for quorum_query_many. The numbers are counted as lent. With
+ * all runs chosen this is quorum_probe_bound.
  *
  * `result` receives refusal and place, and the bound, 0 on a refusal: 1, 13 and 3,
  * the last for the ends of all runs, chosen or not.

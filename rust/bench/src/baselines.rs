@@ -7,13 +7,18 @@ use std::collections::binary_heap::{BinaryHeap, PeekMut};
 /// A head, its run and its place in the run.
 type Head = Reverse<(u32, u32, u32)>;
 
+/// The bins of the runs: a 0 at the start of one is passed over.
 fn runs_of<'a>(numbers: &'a [u32], ends: &[u32]) -> Vec<&'a [u32]> {
     let runs = ends.iter().scan(0, |start, &end| {
         let run = *start..end as usize;
         *start = end as usize;
         Some(run)
     });
-    runs.map(|run| &numbers[run]).collect()
+    runs.map(|run| match &numbers[run] {
+        [0, bins @ ..] => bins,
+        bins => bins,
+    })
+    .collect()
 }
 
 fn heads_of(runs: &[&[u32]]) -> BinaryHeap<Head> {
@@ -22,8 +27,8 @@ fn heads_of(runs: &[&[u32]]) -> BinaryHeap<Head> {
         .collect()
 }
 
-/// Writes the numbers that at least `threshold` runs hold, by a merge with the
-/// standard library's heap of the heads that goes through every number: each
+/// Writes the bins that at least `threshold` runs hold, by a merge with the
+/// standard library's heap of the heads that goes through every bin: each
 /// head is taken out and the next one of its run put in. Returns how many there
 /// are.
 pub fn heap_merge(numbers: &[u32], ends: &[u32], threshold: usize, answers: &mut [u32]) -> usize {
@@ -95,7 +100,9 @@ pub fn sort_and_count(
     let mut written = 0;
     let mut equal = 0;
     let mut last = 0;
-    for &x in scratch.iter() {
+    // The zeros are no bins.
+    let first = scratch.partition_point(|&x| x == 0);
+    for &x in &scratch[first..] {
         equal = if x == last { equal + 1 } else { 1 };
         last = x;
         if equal == threshold {
@@ -113,7 +120,7 @@ mod tests {
 
     fn counted(numbers: &[u32], threshold: usize) -> Vec<u32> {
         let mut counts = BTreeMap::new();
-        for &x in numbers {
+        for &x in numbers.iter().filter(|&&x| x > 0) {
             *counts.entry(x).or_insert(0) += 1;
         }
         let held = counts.into_iter().filter(|&(_, count)| count >= threshold);
@@ -123,8 +130,9 @@ mod tests {
     #[test]
     fn all_give_the_counted_answers() {
         let m = u32::MAX;
-        let inputs: [(&[u32], &[u32]); 6] = [
+        let inputs: [(&[u32], &[u32]); 7] = [
             (&[], &[0]),
+            (&[0, 0, 4, 0, 1], &[1, 3, 5]),
             (&[0, m], &[2]),
             (&[2, 5, 9, 5, 7, 9, 12, 1, 9], &[3, 7, 9]),
             (&[0, m, m, 0, 1, m], &[2, 3, 3, 6]),

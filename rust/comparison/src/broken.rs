@@ -14,7 +14,7 @@ pub fn any_threshold(random: &mut Random, k: usize) -> u32 {
 
 /// Breaks the rows in one way. They may still pass the first checks.
 pub fn break_rows(random: &mut Random, numbers: &mut Vec<u32>, ends: &mut Vec<u32>) {
-    match random.below(10) {
+    match random.below(11) {
         // An end that falls.
         0 if ends.len() > 1 => {
             let i = random.from_to(1, ends.len() - 1);
@@ -51,6 +51,14 @@ pub fn break_rows(random: &mut Random, numbers: &mut Vec<u32>, ends: &mut Vec<u3
         8 if !numbers.is_empty() => {
             let i = random.below(numbers.len());
             numbers[i] = random.pick(&[0, M, numbers[i].wrapping_sub(1)]);
+        }
+        // Two marks at the start of a run.
+        9 if !ends.is_empty() => {
+            let run = random.below(ends.len());
+            let start = run.checked_sub(1).map_or(0, |before| ends[before] as usize);
+            if let Some(front) = numbers.get_mut(start..start + 2) {
+                front.fill(0);
+            }
         }
         // One run more or less.
         _ if random.one_in(2) => ends.push(numbers.len() as u32),

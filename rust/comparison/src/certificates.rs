@@ -3,7 +3,7 @@
 
 use quorum::Refusal;
 use reference::testing::{Random, M};
-use reference::{all_runs, decode, named_runs, Part};
+use reference::{all_runs, decode, named_runs, Part, FIRST_BIN};
 
 /// Runs, those of them that are chosen, and a threshold that pass the first
 /// checks.
@@ -76,7 +76,7 @@ impl Task<'_> {
     /// A true certificate cut and masked at random, found without the walk.
     pub fn any_true(&self, random: &mut Random) -> Vec<Part> {
         let mut parts = Vec::new();
-        let mut next = 0;
+        let mut next = FIRST_BIN;
         // How often a gap is cut short; never once there are many parts.
         let odds = random.pick(&[2, 5, 1_000]);
         loop {
@@ -97,6 +97,32 @@ impl Task<'_> {
             }
             next = part.last() + 1;
         }
+    }
+
+    /// A true certificate made to cover 0 too: its first gap begins there, or a
+    /// gap or an answer of 0 alone comes before it. The masks are such that the
+    /// part would be true if 0 were a bin, or name all that are chosen.
+    pub fn from_0(&self, random: &mut Random, parts: &[Part]) -> Vec<Part> {
+        let mut parts = parts.to_vec();
+        match (parts[0], random.below(3)) {
+            (Part::Gap { last, mask, .. }, 0) => {
+                parts[0] = Part::Gap {
+                    first: 0,
+                    last,
+                    mask,
+                };
+            }
+            (_, 1) => {
+                let mask = random.pick(&[self.holding(0, 0), self.chosen]);
+                parts.insert(0, Part::Answer { value: 0, mask });
+            }
+            _ => {
+                let mask = random.pick(&[self.missing(0, 0), self.chosen]);
+                let (first, last) = (0, 0);
+                parts.insert(0, Part::Gap { first, last, mask });
+            }
+        }
+        parts
     }
 
     /// A number from `first` to `last`, often near one of them.

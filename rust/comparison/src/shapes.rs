@@ -1,6 +1,6 @@
 //! Random runs of several shapes.
 
-use reference::testing::{Random, M};
+use reference::testing::{mark_some, Random, M};
 
 /// How the numbers of the runs lie to one another.
 #[derive(Clone, Copy, Debug)]
@@ -30,20 +30,29 @@ pub const SHAPES: [Shape; 6] = [
 ];
 
 /// Returns `k` runs of up to about `length` numbers each, of any shape, some
-/// of them with 0 or 4294967295, some empty.
+/// of them with 4294967295, some empty. In a third of all cases runs begin with
+/// 0, the unmapped mark.
 pub fn any_runs(random: &mut Random, k: usize, length: usize) -> Vec<Vec<u32>> {
     let shape = random.pick(&SHAPES);
-    let mut runs = shaped_runs(random, shape, k, length);
+    let mut runs = placed_runs(random, shape, k, length);
     match random.below(4) {
-        0 => add_ends(random, &mut runs),
+        0 => add_last(random, &mut runs),
         1 => cut_some(random, &mut runs),
         _ => (),
     }
+    mark_some(random, &mut runs);
     runs
 }
 
-/// Returns `k` runs of a shape, of up to about `length` numbers each.
+/// Returns `k` runs of a shape, of up to about `length` numbers each. In a third
+/// of all cases runs begin with 0.
 pub fn shaped_runs(random: &mut Random, shape: Shape, k: usize, length: usize) -> Vec<Vec<u32>> {
+    let mut runs = placed_runs(random, shape, k, length);
+    mark_some(random, &mut runs);
+    runs
+}
+
+fn placed_runs(random: &mut Random, shape: Shape, k: usize, length: usize) -> Vec<Vec<u32>> {
     let lists = match shape {
         Shape::Dense => {
             let tenths = random.pick(&[5, 8, 9, 10]);
@@ -146,12 +155,9 @@ fn place(random: &mut Random, lists: Vec<Vec<u64>>) -> Vec<Vec<u32>> {
     lists.into_iter().map(place_one).collect()
 }
 
-/// Adds 0 and 4294967295 to some runs.
-fn add_ends(random: &mut Random, runs: &mut [Vec<u32>]) {
+/// Adds 4294967295 to some runs.
+fn add_last(random: &mut Random, runs: &mut [Vec<u32>]) {
     for run in runs {
-        if random.one_in(2) && run.first() != Some(&0) {
-            run.insert(0, 0);
-        }
         if random.one_in(2) && run.last() != Some(&M) {
             run.push(M);
         }

@@ -152,9 +152,10 @@ fn stop_rising(random: &mut Random, runs: &mut [Vec<u32>]) {
     }
     let run = &mut runs[random.pick(&long)];
     let i = random.from_to(1, run.len() - 1);
-    match random.below(3) {
+    match random.below(4) {
         0 => run[i] = run[i - 1],
         1 => run.swap(i - 1, i),
+        2 => run[..2].fill(0),
         _ => run[i] = 0,
     }
 }
@@ -235,14 +236,16 @@ pub fn near_a_limit(random: &mut Random) -> Text {
     text
 }
 
-/// Some runs with `count` numbers in all, some of them empty.
+/// Some runs with `count` numbers in all, some of them empty. In a third of all
+/// cases they begin with 0.
 fn cut_up(random: &mut Random, count: usize) -> Vec<Vec<u32>> {
     let k = random.from_to(1, MOST_RUNS);
     let mut cuts: Vec<usize> = (1..k).map(|_| random.below(count + 1)).collect();
     cuts.extend([0, count]);
     cuts.sort_unstable();
-    let step = random.pick(&[1, 3, 4_000_000]);
-    let run = |cut: &[usize]| (0..cut[1] - cut[0]).map(|i| i as u32 * step).collect();
+    let (first, step) = (random.pick(&[0, 1, 2]), random.pick(&[1, 3, 4_000_000]));
+    let number = |i: usize| first + i as u32 * step;
+    let run = |cut: &[usize]| (0..cut[1] - cut[0]).map(number).collect();
     cuts.windows(2).map(run).collect()
 }
 

@@ -5,7 +5,9 @@ use crate::question::Question;
 use crate::shapes::any_runs;
 use quorum::{Checked, Refusal};
 use reference::testing::{lay_out, slices, Random};
-use reference::{all_runs, decode, encode, is_true_chosen, trace_chosen, Part, Verdict};
+use reference::{
+    all_runs, check_chosen, decode, encode, is_true_chosen, trace_chosen, Part, Verdict,
+};
 
 /// How many certificates were seen with each verdict; 0 stands for true.
 #[derive(Default)]
@@ -56,7 +58,7 @@ impl Seen {
             threshold,
         } = question;
         let context = || format!("seed {seed}: certificate {bytes:?}, mask {mask}, {question:?}");
-        let expected = reference::check_chosen(numbers, ends, mask, threshold, bytes);
+        let expected = check_chosen(numbers, ends, mask, threshold, bytes);
         let (result, row) = verdict_of(expected);
         let found = quorum::check_chosen(numbers, ends, mask, threshold, bytes);
         assert_eq!(found, result, "{}", context());
@@ -97,11 +99,12 @@ impl Seen {
         number
     }
 
-    /// Compares a true certificate, and what it becomes with parts or bytes
-    /// damaged.
+    /// Compares a true certificate, what it becomes when it covers 0 too, and
+    /// with parts or bytes damaged.
     fn compare_damaged(&mut self, seed: u64, random: &mut Random, task: Task, parts: &[Part]) {
         let mut bytes = encode(parts);
         assert_eq!(self.compare_with_truth(seed, task, &bytes), 0);
+        self.compare_from_0(seed, task, &task.from_0(random, parts));
         for _ in 0..2 {
             let mut parts = parts.to_vec();
             for _ in 0..random.pick(&[1, 1, 2]) {
@@ -116,6 +119,18 @@ impl Seen {
         }
         damage_bytes(random, &mut bytes);
         self.compare_with_truth(seed, task, &bytes);
+    }
+
+    /// Compares a certificate that begins at 0, which is refused for that and
+    /// for nothing else.
+    fn compare_from_0(&mut self, seed: u64, task: Task, parts: &[Part]) {
+        let bytes = encode(parts);
+        self.compare_with_truth(seed, task, &bytes);
+        let (numbers, ends) = lay_out(task.runs);
+        let verdict = check_chosen(&numbers, &ends, task.chosen, task.threshold, &bytes);
+        let (number, place) = (9, 0);
+        let refused = Verdict::Invalid { number, place };
+        assert_eq!(verdict, refused, "seed {seed}: {parts:?}");
     }
 
     fn count(&mut self, row: [u64; 4]) -> u64 {

@@ -1,4 +1,4 @@
-//! The numbers of one list between two numbers.
+//! The bins of one list between two numbers.
 
 use comparison::shapes::any_runs;
 use comparison::{seeds, Row};
@@ -31,6 +31,10 @@ fn edges() {
         &[7],
         &[2, 5, 9],
         &[0, 1, 2],
+        &[0, 3, 5],
+        &[0, 0],
+        &[0, 0, 5],
+        &[0, 5, 0],
         &[M - 2, M - 1, M],
         &[3, 3],
         &[4, 3],
@@ -48,9 +52,17 @@ fn edges() {
     }
 }
 
+/// A 0 is never shown.
+#[test]
+fn instances() {
+    assert_eq!(quorum::between(&[0, 3, 5], 0, 3), [3]);
+    assert_eq!(quorum::between(&[0, 3, 5], 0, 0), []);
+    assert_eq!(quorum::ffi::between(&[0, 3, 5], 0, M), 1..3);
+}
+
 #[test]
 fn random_lists() {
-    let mut found = 0;
+    let (mut found, mut marked) = (0, 0);
     for seed in seeds(31, 200_000) {
         let mut random = Random(seed);
         let length = random.pick(&[1, 2, 3, 8, 20, 60]);
@@ -72,9 +84,11 @@ fn random_lists() {
             }
         };
         let (first, last) = (pick(), pick());
-        found += usize::from(compare(seed, &list, first, last) > 0);
+        let is_found = compare(seed, &list, first, last) > 0;
+        found += usize::from(is_found);
+        marked += usize::from(is_found && first == 0 && list[0] == 0);
     }
-    assert!(found > 50_000);
+    assert!(found > 50_000 && marked > 1_000, "{found}, {marked}");
 }
 
 /// Lists may be longer than a query's runs.

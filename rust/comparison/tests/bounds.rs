@@ -1,5 +1,6 @@
-//! The bound 2 × d × b on the probes of a run against the fewest parts of any
-//! true certificate, found without the walk.
+//! The bound 2 × d × b on the probes of a run, b being the digits of the number
+//! of its bins, against the fewest parts of any true certificate, found without
+//! the walk.
 
 use comparison::many::{self, whole as whole_many, Call};
 use comparison::question::{whole, Comparer, Limits, Question};
@@ -7,7 +8,29 @@ use comparison::seeds;
 use comparison::shapes::any_runs;
 use quorum::{probe_bound, probe_bound_chosen};
 use reference::testing::{choose, lay_out, slices, Random};
-use reference::{all_runs, digits, fewest_parts, is_true, trace, trace_chosen, Outcome, Probes};
+use reference::{
+    all_runs, bins, digits, fewest_parts, is_true, trace, trace_chosen, Outcome, Probes,
+};
+
+/// Bounds summed up over runs.
+#[derive(Default)]
+struct Sums {
+    /// Over their bins.
+    sum: u64,
+    /// Over their numbers as lent, a 0 included, which is all that the ends tell.
+    as_lent: u64,
+}
+
+impl Sums {
+    /// Adds the bounds of a run and returns that over its bins.
+    fn add(&mut self, run: &[u32], parts: u64) -> u64 {
+        let bound = |numbers: &[u32]| 2 * parts * u64::from(digits(numbers.len() as u64));
+        self.as_lent += bound(run);
+        self.sum += bound(bins(run));
+        assert!(self.sum <= self.as_lent);
+        bound(bins(run))
+    }
+}
 
 /// Compares one walk with the fewest parts possible, at every threshold.
 fn within_the_bound(seed: u64, runs: &[Vec<u32>]) {
@@ -24,13 +47,18 @@ fn within_the_bound(seed: u64, runs: &[Vec<u32>]) {
         let walk = trace(&numbers, &ends, threshold).unwrap();
         assert!(is_true(&slices(runs), threshold, &walk.parts));
 
-        let mut sum = 0;
+        let mut sums = Sums::default();
         for (run, &probes) in runs.iter().zip(&walk.probes) {
-            let bound = 2 * fewest as u64 * u64::from(digits(run.len() as u64));
+            let bound = sums.add(run, fewest as u64);
             assert!(probes.total() <= bound, "{}", context());
-            sum += bound;
         }
-        assert_eq!(probe_bound(&ends, fewest as u32), Ok(sum), "{}", context());
+        let Sums { sum, as_lent } = sums;
+        assert_eq!(
+            probe_bound(&ends, fewest as u32),
+            Ok(as_lent),
+            "{}",
+            context()
+        );
 
         // The library agrees with the reference in each of these.
         let whole = whole(question).unwrap();
@@ -110,16 +138,21 @@ fn chosen_within_the_bound(seed: u64, random: &mut Random, runs: &[Vec<u32>]) {
         call.thresholds.push(threshold);
         let fewest = fewest_parts(&choose(runs, mask), threshold) as u32;
         let walk = trace_chosen(&call.numbers, &call.ends, mask, threshold).unwrap();
-        let mut sum = 0;
+        let mut sums = Sums::default();
         for (i, (run, &probes)) in runs.iter().zip(&walk.probes).enumerate() {
-            let digits = (mask >> i & 1) * u64::from(digits(run.len() as u64));
-            let bound = 2 * u64::from(fewest) * digits;
+            let bound = match mask >> i & 1 {
+                1 => sums.add(run, fewest.into()),
+                _ => 0,
+            };
             assert!(probes.total() <= bound, "seed {seed}: run {i}, {call:?}");
-            sum += bound;
         }
         let bound = probe_bound_chosen(&call.ends, mask, fewest);
-        assert_eq!(bound, Ok(sum), "seed {seed}: mask {mask}, {call:?}");
-        allowance += sum as u32;
+        assert_eq!(
+            bound,
+            Ok(sums.as_lent),
+            "seed {seed}: mask {mask}, {call:?}"
+        );
+        allowance += sums.sum as u32;
     }
     let whole = whole_many(&call).unwrap();
     let limits = Limits { allowance, ..whole };

@@ -146,14 +146,14 @@ fn every_mask() {
             let all = 7;
             for value in [6, 7, 8, 9] {
                 let parts = [
-                    gap(0, value - 1, all),
+                    gap(1, value - 1, all),
                     hit(value, mask),
                     gap(value + 1, M, mask),
                 ];
                 for kept in 1..=3 {
                     seen.compare_with_truth(0, task, &encode(&parts[..kept]));
                 }
-                let joined = [gap(0, value, mask), parts[2]];
+                let joined = [gap(1, value, mask), parts[2]];
                 seen.compare_with_truth(0, task, &encode(&joined));
             }
         }

@@ -144,14 +144,14 @@ fn every_mask() {
             for mask in (0..16).chain([1 << 63, u64::MAX, 7 | 1 << 62]) {
                 for value in [6, 7, 8, 9] {
                     let parts = [
-                        gap(0, value - 1, chosen),
+                        gap(1, value - 1, chosen),
                         hit(value, mask),
                         gap(value + 1, M, mask),
                     ];
                     for kept in 1..=3 {
                         seen.compare_with_truth(0, task, &encode(&parts[..kept]));
                     }
-                    let joined = [gap(0, value, mask), parts[2]];
+                    let joined = [gap(1, value, mask), parts[2]];
                     seen.compare_with_truth(0, task, &encode(&joined));
                 }
             }

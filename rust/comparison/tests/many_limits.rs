@@ -42,7 +42,7 @@ fn every_limit() {
     comparer.met(&[0, 5, 6, 7], 500);
 }
 
-/// All runs over four numbers, two at each end of the line, up to three runs,
+/// All runs over the mark, the first bin and the last two, up to three runs,
 /// with every choice of them and every threshold in one call.
 #[test]
 fn all_small_inputs() {

@@ -112,7 +112,7 @@ fn every_limit() {
     met(&comparer, &[0, 5, 6, 7], 10);
 }
 
-/// All runs over four numbers, two at each end of the line, up to three runs.
+/// All runs over the mark, the first bin and the last two, up to three runs.
 #[test]
 fn all_small_inputs() {
     let mut comparer = Comparer::new();

@@ -77,7 +77,7 @@ fn a_pipe_on_which_a_read_fails() {
 #[test]
 fn a_pipe_that_ends() {
     let printed = print_of(&program::hits(), &[THREE_LINES], false);
-    let answer = "gap 0 4 2\n\
+    let answer = "gap 1 4 2\n\
                   hit 5 3\n\
                   gap 6 8 1\n\
                   hit 9 3\n\

@@ -201,7 +201,7 @@ impl FusedIterator for Runs {}
 /// assert_eq!(
 ///     all,
 ///     [
-///         Part::Gap { first: 0, last: 6, mask: 0b11 },
+///         Part::Gap { first: 1, last: 6, mask: 0b11 },
 ///         Part::Answer { value: 7, mask: 0b11 },
 ///         Part::Gap { first: 8, last: 4_294_967_295, mask: 0b10 },
 ///     ]

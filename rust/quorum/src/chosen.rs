@@ -17,7 +17,9 @@ use crate::{bounded, checked, ffi, Checked, Refusal};
 /// in this order; the numbers of all runs must rise, chosen or not. And 8 to 11
 /// if the certificate is not true: the first field that is wrong, each being
 /// settled before the next. A part that names a run that is not chosen is
-/// [`BAD_MASK`](Refusal::BAD_MASK).
+/// [`BAD_MASK`](Refusal::BAD_MASK), and a certificate that begins at bin 0 is
+/// [`NOT_COVERING`](Refusal::NOT_COVERING) at place 0, as of
+/// [`check()`](crate::check()).
 ///
 /// # Cost
 ///
@@ -29,9 +31,9 @@ use crate::{bounded, checked, ffi, Checked, Refusal};
 /// ```
 /// use quorum::{check_chosen, Refusal};
 ///
-/// // {7}, {} and {9}; one gap from 0 to 4294967295 in which run 1 has no number.
+/// // {7}, {} and {9}; one gap from 1 to 4294967295 in which run 1 has no number.
 /// let (numbers, ends) = ([7, 9], [1, 1, 2]);
-/// let certificate = [2, 16, 0, 0, 0, 0, 0, 255, 255, 255, 255, 2, 0, 0, 0, 0, 0, 0, 0];
+/// let certificate = [2, 16, 0, 1, 0, 0, 0, 255, 255, 255, 255, 2, 0, 0, 0, 0, 0, 0, 0];
 ///
 /// // No number is in both of runs 0 and 1.
 /// let checked = check_chosen(&numbers, &ends, 0b011, 2, &certificate)?;
@@ -64,8 +66,8 @@ pub fn check_chosen(
 /// them.
 ///
 /// An allowance of the sum of the bounds of all its questions is enough for
-/// [`query_many()`](crate::query_many()). With all runs chosen this is
-/// [`probe_bound()`](crate::probe_bound()).
+/// [`query_many()`](crate::query_many()). The numbers are counted as lent, as by
+/// [`probe_bound()`](crate::probe_bound()), which this is with all runs chosen.
 ///
 /// # Errors
 ///

@@ -116,7 +116,7 @@ pub fn query(
 /// Returns refusal, place, answers and parts.
 ///
 /// ```
-/// // The certificate ends with every number uncovered.
+/// // The certificate ends with every bin uncovered.
 /// assert_eq!(quorum::ffi::check(&[7], &[1], 1, &[]), [9, 0, 0, 0]);
 /// ```
 pub fn check(numbers: &[u32], ends: &[u32], threshold: u32, certificate: &[u8]) -> [u64; 4] {

@@ -1,20 +1,26 @@
-//! Which numbers do at least `t` of `k` rising lists hold? A safe wrapper of
-//! the proved library behind `include/quorum.h`.
+//! Which bins do at least `t` of `k` rising lists hold? A safe wrapper of the
+//! proved library behind `include/quorum.h`.
 //!
-//! * [`query()`] writes the numbers held often enough, with a certificate.
+//! * [`query()`] writes the bins held often enough, with a certificate.
 //! * [`query_many()`] does so for many questions about the same runs, each about
 //!   some of them; [`finished()`] hands out each question's own.
 //! * [`check()`] decides whether a certificate is true, [`check_chosen()`]
 //!   whether it is for some of the runs.
 //! * [`parts()`] reads a certificate.
-//! * [`between()`] finds the numbers of one list between two numbers.
+//! * [`between()`] finds the bins of one list between two numbers.
 //! * [`probe_bound()`] gives an allowance of probes that is enough,
 //!   [`probe_bound_chosen()`] one for some of the runs.
 //!
 //! # Terms
 //!
-//! A *run* is a rising list of 32-bit numbers: each is above the one before it.
+//! A *bin* is a number from [`FIRST_BIN`], which is 1, to [`LAST_BIN`], which is
+//! 4294967295. A *run* is a rising list of bins: each is above the one before it.
 //! A run may be empty. There are 1 to [`MAX_RUNS`] runs, counted from 0.
+//!
+//! A run may begin with a 0, the mark of a hit that could not be mapped. It is no
+//! bin: it is passed over without a probe, is never an answer, and no certificate
+//! speaks of it. It is one of the `numbers`, and counts in ends, in places and
+//! towards [`MAX_NUMBERS`]. A second 0 does not rise and is refused.
 //!
 //! All runs lie one after another in `numbers`, at most [`MAX_NUMBERS`] of them.
 //! The *end* of a run, `ends[i]`, is the place in `numbers` after its last
@@ -26,9 +32,9 @@
 //! the lowest. The runs that a question is about are *chosen* by a mask; all
 //! masks, those of a certificate too, are in the numbering of all runs.
 //!
-//! An *answer* is a number that at least `threshold` runs hold. A *certificate*
-//! shows which numbers are answers and that no other is. It is a row of bytes,
-//! one field for each [`Part`]; the parts cover every number from 0 to
+//! An *answer* is a bin that at least `threshold` runs hold. A *certificate*
+//! shows which bins are answers and that no other is. It is a row of bytes, one
+//! field for each [`Part`]; the parts cover every bin from [`FIRST_BIN`] to
 //! [`LAST_BIN`] once, in rising order. A part is either an answer, with a mask
 //! of runs that hold it, or a gap, with a mask of runs that have no number in
 //! it, so many that the others are fewer than `threshold`. An answer's mask, as
@@ -38,8 +44,8 @@
 //! A *probe* is one comparison with a number in a search. A search jumps ahead in
 //! its run by *doubling probes*, 1, 2, 4 numbers and so on, and then narrows down
 //! what its last jump passed over by *halving probes*; allowances and bounds are
-//! about both together. Bounds on probes count the *binary digits* of a run's
-//! length: an empty run has 0 of them, a run of 4 numbers 3.
+//! about both together. Bounds on probes count the *binary digits* of the number
+//! of a run's bins: no bins have 0 of them, 4 bins have 3.
 //!
 //! # Calls
 //!
@@ -49,7 +55,7 @@
 //!
 //! # Example
 //!
-//! The numbers in at least two of {2, 5, 9}, {5, 7, 9, 12} and {1, 9}:
+//! The bins in at least two of {2, 5, 9}, {5, 7, 9, 12} and {1, 9}:
 //!
 //! ```
 //! use quorum::{check, enough_answers, enough_bytes, parts, query, Part, ENOUGH_PROBES};
@@ -79,7 +85,7 @@
 //! }
 //! assert_eq!(
 //!     lines,
-//!     ["gap 0 1 3", "gap 2 4 6", "hit 5 3", "gap 6 8 5", "hit 9 7", "gap 10 4294967295 5"]
+//!     ["gap 1 1 3", "gap 2 4 6", "hit 5 3", "gap 6 8 5", "hit 9 7", "gap 10 4294967295 5"]
 //! );
 //! # Ok::<(), Box<dyn std::error::Error>>(())
 //! ```
@@ -100,7 +106,8 @@ pub use certificate::{parts, Part, Parts, Runs, ANSWER_SIZE, GAP_SIZE, TAG_ANSWE
 pub use chosen::{check_chosen, probe_bound_chosen};
 pub use finished::{finished, Answered, Finished};
 pub use limits::{
-    enough_answers, enough_bytes, enough_results, ENOUGH_PROBES, LAST_BIN, MAX_NUMBERS, MAX_RUNS,
+    enough_answers, enough_bytes, enough_results, ENOUGH_PROBES, FIRST_BIN, LAST_BIN, MAX_NUMBERS,
+    MAX_RUNS,
 };
 pub use many::{query_many, StoppedMany};
 pub use refusal::{Refusal, Stopped};
@@ -167,7 +174,7 @@ pub struct Checked {
     pub parts: usize,
 }
 
-/// Writes the numbers that at least `threshold` of the runs hold to `answers`,
+/// Writes the bins that at least `threshold` of the runs hold to `answers`,
 /// rising, and to `certificate` the parts that show them to be all.
 ///
 /// An answer's mask names all the runs that hold it. No true certificate has
@@ -206,9 +213,9 @@ pub struct Checked {
 ///
 /// # Cost
 ///
-/// One pass over `numbers` for the first checks. Then, in a run whose length
-/// has b binary digits, at most 2 × d × b probes, d being the parts of any true
-/// certificate. Moving a run on by one or two numbers takes as many doubling
+/// One pass over `numbers` for the first checks. Then, in a run whose number of
+/// bins has b binary digits, at most 2 × d × b probes, d being the parts of any
+/// true certificate. Moving a run on by one or two numbers takes as many doubling
 /// probes at most, by r numbers about log2(r) of each kind.
 ///
 /// # Example
@@ -227,6 +234,10 @@ pub struct Checked {
 /// let stopped = refused.unwrap_err();
 /// assert_eq!(stopped.refusal.number, Refusal::ANSWERS_FULL);
 /// assert_eq!((stopped.counts.answers, stopped.counts.parts), (1, 3));
+///
+/// // {0, 7, 9} and {0, 7} are the same runs, each after the unmapped mark.
+/// let counts = query(&[0, 7, 9, 0, 7], &[3, 5], 2, 0, &mut answers, &mut certificate)?;
+/// assert_eq!((counts.answers, counts.parts), (1, 3));
 /// # Ok::<(), quorum::Stopped>(())
 /// ```
 pub fn query(
@@ -269,6 +280,10 @@ fn counted([answers, parts, bytes, doublings, halvings]: [u64; 5]) -> Counts {
 /// the certificate is not true: the first field that is wrong, each being
 /// settled before the next.
 ///
+/// A certificate that begins at bin 0 is [`NOT_COVERING`](Refusal::NOT_COVERING)
+/// at place 0, whoever wrote it, and so is a stored one: nothing in it tells its
+/// age. Ask again for a new one.
+///
 /// # Cost
 ///
 /// One pass over `numbers` for the first checks, then at most one more and
@@ -279,13 +294,18 @@ fn counted([answers, parts, bytes, doublings, halvings]: [u64; 5]) -> Counts {
 /// ```
 /// use quorum::{check, Refusal};
 ///
-/// // One gap from 0 to 4294967295 in which run 0 has no number.
-/// let certificate = [2, 16, 0, 0, 0, 0, 0, 255, 255, 255, 255, 1, 0, 0, 0, 0, 0, 0, 0];
+/// // One gap from 1 to 4294967295 in which run 0 has no number.
+/// let mut certificate = [2, 16, 0, 1, 0, 0, 0, 255, 255, 255, 255, 1, 0, 0, 0, 0, 0, 0, 0];
 /// let checked = check(&[], &[0], 1, &certificate)?;
 /// assert_eq!((checked.answers, checked.parts), (0, 1));
 ///
 /// let refusal = Refusal { number: Refusal::CONTRADICTED, place: 0 };
 /// assert_eq!(check(&[7], &[1], 1, &certificate), Err(refusal));
+///
+/// // The same from 0 on.
+/// certificate[3] = 0;
+/// let refusal = Refusal { number: Refusal::NOT_COVERING, place: 0 };
+/// assert_eq!(check(&[], &[0], 1, &certificate), Err(refusal));
 /// # Ok::<(), Refusal>(())
 /// ```
 pub fn check(
@@ -308,8 +328,9 @@ fn checked(row: [u64; 4]) -> Result<Checked, Refusal> {
     }
 }
 
-/// Returns the part of `list` that has its numbers from `first` to `last`, both
-/// included. It is empty if `first` is above `last` or the list does not rise.
+/// Returns the part of `list` that has its bins from `first` to `last`, both
+/// included. It is empty if `first` is above `last` or the list does not rise. A
+/// 0 at the start of the list is never shown, whatever `first` is.
 ///
 /// # Cost
 ///
@@ -323,6 +344,8 @@ fn checked(row: [u64; 4]) -> Result<Checked, Refusal> {
 /// assert_eq!(between(&[2, 5, 9], 3, 9), [5, 9]);
 /// assert_eq!(between(&[2, 5, 9], 6, 8), []);
 /// assert_eq!(between(&[9, 5, 2], 3, 9), []);
+/// assert_eq!(between(&[0, 3, 5], 0, 3), [3]);
+/// assert_eq!(between(&[0, 3, 5], 0, 0), []);
 /// ```
 #[must_use]
 pub fn between(list: &[u32], first: u32, last: u32) -> &[u32] {
@@ -335,6 +358,10 @@ pub fn between(list: &[u32], first: u32, last: u32) -> &[u32] {
 /// Returns the sum over the runs of 2 × `parts` × the binary digits of the
 /// run's length, an empty run having 0 digits. If a true certificate has so many
 /// parts, an allowance of this many probes is enough.
+///
+/// The length is that of the numbers as lent, a 0 at the start among them, for
+/// the ends tell no more. So the sum may be above that over the runs' bins, and is
+/// never below it.
 ///
 /// [`ENOUGH_PROBES`] is enough for every query, so a sum above it, which may have
 /// more than an allowance's 32 bits, can be cut down to it.

@@ -16,8 +16,16 @@ pub const MAX_RUNS: usize = 64;
 /// ```
 pub const MAX_NUMBERS: usize = 1_048_576;
 
+/// The first bin. 0 is none: at the start of a run it marks a hit that could not
+/// be mapped, and elsewhere it is refused.
+///
+/// ```
+/// assert_eq!(quorum::FIRST_BIN, 1);
+/// ```
+pub const FIRST_BIN: u32 = 1;
+
 /// The last bin, which is the largest number that a run can hold. The parts of
-/// a certificate cover the bins from 0 to this one.
+/// a certificate cover the bins from [`FIRST_BIN`] to this one.
 ///
 /// ```
 /// assert_eq!(quorum::LAST_BIN, 4_294_967_295);

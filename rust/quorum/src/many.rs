@@ -5,8 +5,8 @@ use crate::{counted, ffi, Counts, Refusal};
 use std::error::Error;
 use std::fmt;
 
-/// Asks many questions about the same runs: question `q` is which numbers at
-/// least `thresholds[q]` of the runs that `masks[q]` names hold.
+/// Asks many questions about the same runs: question `q` is which bins at least
+/// `thresholds[q]` of the runs that `masks[q]` names hold.
 ///
 /// The answers of the questions follow each other in `answers`, and so do their
 /// certificates in `certificate`. Each certificate is the one that the chosen
@@ -52,8 +52,8 @@ use std::fmt;
 ///
 /// One pass over `numbers` for the first checks of all questions, where a
 /// [`query()`](crate::query()) for each makes one for each. Then for each
-/// question, in a chosen run whose length has b binary digits, at most 2 × d × b
-/// probes, d being the parts of any true certificate of the chosen runs.
+/// question, in a chosen run whose number of bins has b binary digits, at most
+/// 2 × d × b probes, d being the parts of any true certificate of the chosen runs.
 ///
 /// # Example
 ///
@@ -78,8 +78,8 @@ use std::fmt;
 ///     &mut results,
 /// )?;
 /// assert_eq!(answers[..counts.answers], [5, 9, 5, 9, 1, 2, 5, 9]);
-/// assert_eq!((counts.parts, counts.bytes, counts.probes()), (19, 329, 5));
-/// assert_eq!(results, [2, 106, 4, 193, 8, 329]);
+/// assert_eq!((counts.parts, counts.bytes, counts.probes()), (18, 310, 5));
+/// assert_eq!(results, [2, 106, 4, 193, 8, 310]);
 ///
 /// // The first question needs 3 probes and the second 2 more.
 /// let refused = query_many(

@@ -72,8 +72,8 @@ impl Refusal {
     /// only the latter.
     pub const BAD_ENDS: u64 = 3;
 
-    /// A number is not above the one before it in its run. The place is its
-    /// index in the numbers.
+    /// A number is not above the one before it in its run, a second 0 too. The
+    /// place is its index in the numbers.
     pub const NOT_RISING: u64 = 4;
 
     /// One more answer is due and the answer buffer is full. The place is the
@@ -92,10 +92,11 @@ impl Refusal {
     /// length is not the tag's. The place is the offset of its tag.
     pub const BAD_FIELD: u64 = 8;
 
-    /// A part does not begin at the next uncovered number, its last number is
-    /// below its first, or nothing is uncovered before it, the place being the
-    /// offset of its tag. Or, at the certificate's end, a number is still
-    /// uncovered, the place being the certificate's length.
+    /// A part does not begin at the next uncovered bin (the first part at
+    /// [`FIRST_BIN`](crate::FIRST_BIN)), its last bin is below its first, or
+    /// nothing is uncovered before it, the place being the offset of its tag. Or,
+    /// at the certificate's end, a bin is still uncovered, the place being the
+    /// certificate's length.
     pub const NOT_COVERING: u64 = 9;
 
     /// A part's mask names a run that does not exist or is not chosen, or too
@@ -137,9 +138,9 @@ impl fmt::Display for Refusal {
                 "a field is cut short, its tag is unknown or its length is not the tag's"
             }
             Refusal::NOT_COVERING => {
-                "a part does not begin at the next uncovered number, its last number is below \
-                 its first, or nothing is uncovered before it; or, at the certificate's end, a \
-                 number is still uncovered"
+                "a part does not begin at the next uncovered bin (the first part at 1), its last \
+                 bin is below its first, or nothing is uncovered before it; or, at the \
+                 certificate's end, a bin is still uncovered"
             }
             Refusal::BAD_MASK => {
                 "a part names a run that does not exist or is not chosen, or too few runs"

@@ -88,6 +88,7 @@ fn constants_are_equal() {
         ("BAD_ROWS", Refusal::BAD_ROWS),
         ("MAX_RUNS", quorum::MAX_RUNS as u64),
         ("MAX_NUMBERS", quorum::MAX_NUMBERS as u64),
+        ("FIRST_BIN", quorum::FIRST_BIN.into()),
         ("LAST_BIN", quorum::LAST_BIN.into()),
         ("ENOUGH_PROBES", quorum::ENOUGH_PROBES.into()),
         ("TAG_ANSWER", quorum::TAG_ANSWER.into()),
@@ -135,7 +136,7 @@ fn places_of_results() {
     assert_eq!(at(&row, "CHECK_ANSWERS"), 2);
     assert_eq!(at(&row, "CHECK_PARTS"), 6);
 
-    let (mut answers, mut certificate, mut results) = ([0; 8], [0; 329], [0; 6]);
+    let (mut answers, mut certificate, mut results) = ([0; 8], [0; 310], [0; 6]);
     let masks = [7, 3, 5];
     let mut ask_many = |allowance| {
         ffi::query_many(
@@ -152,8 +153,8 @@ fn places_of_results() {
     let row = ask_many(5);
     assert_eq!(row.len(), length("MANY_ROW"));
     assert_eq!(at(&row, "MANY_ANSWERS"), 8);
-    assert_eq!(at(&row, "MANY_PARTS"), 19);
-    assert_eq!(at(&row, "MANY_BYTES"), 329);
+    assert_eq!(at(&row, "MANY_PARTS"), 18);
+    assert_eq!(at(&row, "MANY_BYTES"), 310);
     assert_eq!(at(&row, "MANY_DOUBLINGS"), 5);
     assert_eq!(at(&row, "MANY_HALVINGS"), 0);
     let refused = ask_many(4);

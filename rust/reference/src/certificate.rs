@@ -1,5 +1,6 @@
 //! The parts of a certificate, their bytes, and what makes them true.
 
+use crate::bins::FIRST_BIN;
 use crate::mask::{all_runs, named_runs};
 
 const ANSWER_TAG: u8 = 1;
@@ -150,13 +151,13 @@ pub fn is_true_chosen(runs: &[&[u32]], chosen: u64, threshold: u32, parts: &[Par
     covers_all(parts) && parts.iter().all(part_is_true)
 }
 
-/// Whether the parts cover 0 to 4294967295 in rising order with no hole and
+/// Whether the parts cover 1 to 4294967295 in rising order with no hole and
 /// no overlap.
 fn covers_all(parts: &[Part]) -> bool {
     let (Some(front), Some(back)) = (parts.first(), parts.last()) else {
         return false;
     };
-    front.first() == 0
+    front.first() == FIRST_BIN
         && back.last() == u32::MAX
         && parts.iter().all(|part| part.first() <= part.last())
         && parts

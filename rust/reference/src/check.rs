@@ -1,5 +1,6 @@
 //! The checker of certificates.
 
+use crate::bins::FIRST_BIN;
 use crate::certificate::{read_field, Part};
 use crate::first_checks::{first_checks_chosen, split_runs, Refusal};
 use crate::mask::{all_runs, named_runs};
@@ -55,12 +56,12 @@ fn check_fields(
     certificate: &[u8],
 ) -> Result<(u64, u64), Refusal> {
     first_checks_chosen(numbers, ends, chosen, threshold)?;
-    // What is left of each run. Parts rise, so numbers below one are done with.
+    // What is left of each run. Parts rise, so bins below one are done with.
     let mut unseen = split_runs(numbers, ends);
     let (mut answers, mut parts) = (0, 0);
-    // One more than the last number covered; 2^32 once all are covered, which
-    // no field's first number equals.
-    let mut next: u64 = 0;
+    // The first bin not covered; 2^32 once all are covered, which no field's
+    // first number equals.
+    let mut next = u64::from(FIRST_BIN);
     let mut rest = certificate;
     while !rest.is_empty() {
         let offset = certificate.len() - rest.len();
@@ -96,8 +97,8 @@ fn names_enough(part: &Part, chosen: u64, threshold: u32) -> bool {
     part.mask() & !chosen == 0 && part.mask().count_ones() >= needed
 }
 
-/// Whether a run named by the part contradicts it. Drops the numbers of the
-/// run that are below the part.
+/// Whether a run named by the part contradicts it. Drops the bins of the run
+/// that are below the part.
 fn contradicts(unseen: &mut &[u32], part: &Part) -> bool {
     while unseen.first().is_some_and(|&x| x < part.first()) {
         *unseen = &unseen[1..];

@@ -1,12 +1,14 @@
 //! The least number of parts of any true certificate, found without the walk.
 
+use crate::bins::FIRST_BIN;
+
 /// Returns the least number of parts of any true certificate for runs and a
 /// threshold that pass the first checks; 0 if there is none, which happens
 /// only for others. Meant for small inputs: the cost grows with the square of
 /// the count of numbers.
 ///
-/// It is enough to look at certificates whose parts begin at 0, at a number x
-/// of some run, or at x + 1. Take any true certificate and move the beginning
+/// It is enough to look at certificates whose parts begin at 1, at a bin x of
+/// some run, or at x + 1. Take any true certificate and move the beginning
 /// of each part down to the nearest of these points. The parts stay in order,
 /// and one that becomes empty is dropped, so there are no more than before.
 /// An answer x stays as it is: it begins at x and the next part at x + 1. A
@@ -17,8 +19,9 @@
 pub fn fewest_parts(runs: &[&[u32]], threshold: u32) -> usize {
     let k = runs.len();
     let t = threshold as usize;
-    let mut points: Vec<u64> = vec![0, 1 << 32];
-    for &x in runs.iter().copied().flatten() {
+    let mut points: Vec<u64> = vec![FIRST_BIN.into(), 1 << 32];
+    let numbers = runs.iter().copied().flatten();
+    for &x in numbers.filter(|&&x| x >= FIRST_BIN) {
         points.extend([u64::from(x), u64::from(x) + 1]);
     }
     points.sort_unstable();

@@ -1,5 +1,6 @@
 //! The checks that come before a walk and before a certificate's fields.
 
+use crate::bins::bins;
 use crate::mask::all_runs;
 
 /// The largest number of runs: one for each bit of a mask.
@@ -91,7 +92,8 @@ pub(crate) fn last_end(ends: &[u32]) -> usize {
     ends.last().map_or(0, |&end| end as usize)
 }
 
-/// Refusal 4, for ends that fit the numbers.
+/// Refusal 4, for ends that fit the numbers. It looks at the numbers as lent: a
+/// second 0 in a run does not rise.
 pub(crate) fn check_rising(numbers: &[u32], ends: &[u32]) -> Result<(), Refusal> {
     let mut start = 0;
     for &end in ends {
@@ -105,15 +107,15 @@ pub(crate) fn check_rising(numbers: &[u32], ends: &[u32]) -> Result<(), Refusal>
     Ok(())
 }
 
-/// Returns the runs as slices of `numbers`. Those from `ends.len()` on are
-/// empty, and so is a run whose ends do not fit the numbers, which the first
-/// checks refuse.
+/// Returns the bins of the runs as slices of `numbers`. Those from `ends.len()`
+/// on are empty, and so are those of a run whose ends do not fit the numbers,
+/// which the first checks refuse.
 pub fn split_runs<'a>(numbers: &'a [u32], ends: &[u32]) -> [&'a [u32]; MAX_RUNS] {
     let mut runs: [&[u32]; MAX_RUNS] = [&[]; MAX_RUNS];
     let mut start = 0;
     for (run, &end) in runs.iter_mut().zip(ends) {
         let end = end as usize;
-        *run = numbers.get(start..end).unwrap_or(&[]);
+        *run = bins(numbers.get(start..end).unwrap_or(&[]));
         start = end;
     }
     runs

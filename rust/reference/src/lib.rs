@@ -1,5 +1,7 @@
-//! Reference implementation of docs/SPECIFICATION.md: which numbers do at least
-//! `t` of `k` rising lists hold?
+//! Reference implementation of docs/SPECIFICATION.md: which bins do at least `t`
+//! of `k` rising lists hold? A bin is a number from 1 to 4294967295. A list may
+//! begin with a 0, the mark of a hit that could not be mapped, which is passed
+//! over.
 //!
 //! It is written from the specification alone, to be compared with other
 //! implementations. Every function outside [`testing`] is total: it never
@@ -9,7 +11,7 @@
 //!   [`query_many()`] those of many questions, each about some of the runs.
 //! * [`check()`] decides whether a certificate is true, and names the first
 //!   wrong field.
-//! * [`between()`] finds the numbers of one list between two numbers.
+//! * [`between()`] finds the bins of one list between two numbers.
 //! * [`parse()`] reads the input text of the program `hits`, and [`hits()`] gives
 //!   what it prints.
 //! * [`probe_bound`] gives an allowance that is enough.
@@ -24,6 +26,7 @@
 #![warn(missing_docs)]
 
 pub mod between;
+pub mod bins;
 pub mod bounds;
 pub mod certificate;
 pub mod check;
@@ -42,6 +45,7 @@ mod walk;
 mod writer;
 
 pub use between::between;
+pub use bins::{bins, FIRST_BIN};
 pub use bounds::{digits, probe_bound, probe_bound_chosen};
 pub use certificate::{decode, encode, is_true, is_true_chosen, Part};
 pub use check::{check, check_chosen, Verdict};

@@ -39,7 +39,7 @@ pub enum Outcome {
     },
 }
 
-/// Writes the numbers that at least `threshold` of the runs hold to `answers`
+/// Writes the bins that at least `threshold` of the runs hold to `answers`
 /// and the certificate to `certificate`, making at most `allowance` probes.
 ///
 /// Returns the counts of what was written and probed, with the first refusal

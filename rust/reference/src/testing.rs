@@ -1,5 +1,5 @@
 //! What the tests of this crate and the comparison share: short forms, rows
-//! from runs, all small inputs, random numbers, and the specification's
+//! from runs, all small inputs, random numbers and marks, and the specification's
 //! instances: queries as a list of runs, threshold, allowance, expected parts
 //! and outcome, checks as one of certificates and verdicts, and those about
 //! some of the runs in lists of their own.
@@ -13,7 +13,7 @@ pub use many::{
     FIRST_TWO_PARTS, LAST_TWO_PARTS, OUTER_TWO_PARTS,
 };
 
-/// The largest bin.
+/// The last bin.
 pub const M: u32 = u32::MAX;
 
 /// The runs of the specification's first instance.
@@ -21,7 +21,7 @@ pub const THREE_RUNS: [&[u32]; 3] = [&[2, 5, 9], &[5, 7, 9, 12], &[1, 9]];
 
 /// The parts of [`THREE_RUNS`] with threshold 2.
 pub const THREE_RUNS_PARTS: [Part; 6] = [
-    gap(0, 1, 3),
+    gap(1, 1, 3),
     gap(2, 4, 6),
     hit(5, 3),
     gap(6, 8, 5),
@@ -41,7 +41,7 @@ pub const SEVEN_RUNS: [&[u32]; 7] = [
 ];
 
 /// The parts of [`sixteen_and_one`] with threshold 2.
-pub const SIXTEEN_AND_ONE_PARTS: [Part; 3] = [gap(0, 114, 2), gap(115, 119, 1), gap(120, M, 2)];
+pub const SIXTEEN_AND_ONE_PARTS: [Part; 3] = [gap(1, 114, 2), gap(115, 119, 1), gap(120, M, 2)];
 
 /// {10, 20, .., 160} and {115}. With threshold 2 there is one search that
 /// probes: after places 1, 2, 4 and 8 it halves at 12, 10 and 11.
@@ -52,6 +52,33 @@ pub fn sixteen_and_one() -> [Vec<u32>; 2] {
 /// The first multiples of ten.
 fn tens(count: u32) -> Vec<u32> {
     (1..=count).map(|i| 10 * i).collect()
+}
+
+/// The runs with the unmapped mark in front of each.
+pub fn marked<R: AsRef<[u32]>>(runs: &[R]) -> Vec<Vec<u32>> {
+    let with_mark = |run: &R| [&[0], run.as_ref()].concat();
+    runs.iter().map(with_mark).collect()
+}
+
+/// Has runs begin with the unmapped mark in a third of all cases: all of them,
+/// or any, at least one, some with nothing after it. In the other cases none
+/// does.
+pub fn mark_some(random: &mut Random, runs: &mut [Vec<u32>]) {
+    for run in runs.iter_mut().filter(|run| run.first() == Some(&0)) {
+        run.remove(0);
+    }
+    if runs.is_empty() || !random.one_in(3) {
+        return;
+    }
+    let (one, all) = (random.below(runs.len()), random.one_in(3));
+    for (i, run) in runs.iter_mut().enumerate() {
+        if i == one || all || random.one_in(2) {
+            if random.one_in(8) {
+                run.clear();
+            }
+            run.insert(0, 0);
+        }
+    }
 }
 
 /// An answer, for short lists of expected parts.
@@ -125,12 +152,13 @@ pub fn slices<R: AsRef<[u32]>>(runs: &[R]) -> Vec<&[u32]> {
     runs.iter().map(|run| run.as_ref()).collect()
 }
 
-/// All choices of `k` runs over four bins, two at each end of the line.
+/// All choices of `k` runs over four numbers: the unmapped mark, the first bin
+/// and the last two.
 pub fn small_inputs(k: u32) -> impl Iterator<Item = Vec<Vec<u32>>> {
     let subset = |chosen: usize| -> Vec<u32> {
-        let bins = [0, 1, M - 1, M];
+        let numbers = [0, 1, M - 1, M];
         let is_chosen = |i: &usize| chosen >> i & 1 == 1;
-        (0..4).filter(is_chosen).map(|i| bins[i]).collect()
+        (0..4).filter(is_chosen).map(|i| numbers[i]).collect()
     };
     let runs = move |choice| (0..k).map(|i| subset(choice >> (4 * i) & 15)).collect();
     (0..16_usize.pow(k)).map(runs)
@@ -227,6 +255,7 @@ pub fn instances() -> Vec<Instance> {
     let none: [&[u32]; 0] = [];
     let three = THREE_RUNS_PARTS;
     let sixteen = SIXTEEN_AND_ONE_PARTS;
+    let rounded_down = [gap(1, 54, 2), gap(55, 59, 1), gap(60, M, 2)];
     let mut all = vec![
         Instance::new(
             "three runs",
@@ -253,49 +282,79 @@ pub fn instances() -> Vec<Instance> {
             "one number against ten",
             &against_ten,
             (2, 5),
-            &[gap(0, 99, 1), hit(100, 3), gap(101, M, 3)],
+            &[gap(1, 99, 1), hit(100, 3), gap(101, M, 3)],
             accepted(1, 3, 53, [4, 1]),
         ),
         Instance::new(
             "one number against ten, spent in the search",
             &against_ten,
             (2, 3),
-            &[gap(0, 99, 1)],
+            &[gap(1, 99, 1)],
             refused(7, 1, 0, 19, [3, 0]),
         ),
         Instance::new(
             "two blocks",
             &[[1, 2, 3], [4, 5, 6]],
             (2, 2),
-            &[gap(0, 3, 2), gap(4, M, 1)],
+            &[gap(1, 3, 2), gap(4, M, 1)],
             accepted(0, 2, 38, [2, 0]),
         ),
+        // The mark is passed over, and the largest number is a bin like others.
         Instance::new(
-            "both ends of the line",
+            "the mark and the last bin",
             &[[0, M]],
             (1, 0),
-            &[hit(0, 1), gap(1, 4_294_967_294, 1), hit(M, 1)],
-            accepted(2, 3, 49, [0, 0]),
+            &[gap(1, 4_294_967_294, 1), hit(M, 1)],
+            accepted(1, 2, 34, [0, 0]),
+        ),
+        Instance::new(
+            "the mark alone",
+            &[[0]],
+            (1, 0),
+            &[gap(1, M, 1)],
+            accepted(0, 1, 19, [0, 0]),
+        ),
+        // No bin is before the first answer, so no gap is either.
+        Instance::new(
+            "the mark and the first bin, twice",
+            &[[0, 1], [0, 1]],
+            (2, 0),
+            &[hit(1, 3), gap(2, M, 3)],
+            accepted(1, 2, 34, [0, 0]),
+        ),
+        Instance::new(
+            "the first bin",
+            &[[1]],
+            (1, 0),
+            &[hit(1, 1), gap(2, M, 1)],
+            accepted(1, 2, 34, [0, 0]),
+        ),
+        Instance::new(
+            "three runs, each with the mark",
+            &marked(&THREE_RUNS),
+            (2, 3),
+            &three,
+            accepted(2, 6, 106, [3, 0]),
         ),
         Instance::new(
             "one empty run",
             &[[]],
             (1, 0),
-            &[gap(0, M, 1)],
+            &[gap(1, M, 1)],
             accepted(0, 1, 19, [0, 0]),
         ),
         Instance::new(
             "two equal runs",
             &[[7], [7]],
             (2, 0),
-            &[gap(0, 6, 3), hit(7, 3), gap(8, M, 3)],
+            &[gap(1, 6, 3), hit(7, 3), gap(8, M, 3)],
             accepted(1, 3, 53, [0, 0]),
         ),
         Instance::new(
             "seven runs, all",
             &SEVEN_RUNS,
             (7, 11),
-            &[gap(0, 8, 9), gap(9, 9, 112), gap(10, M, 1)],
+            &[gap(1, 8, 9), gap(9, 9, 112), gap(10, M, 1)],
             accepted(0, 3, 57, [10, 1]),
         ),
         Instance::new(
@@ -303,7 +362,7 @@ pub fn instances() -> Vec<Instance> {
             &SEVEN_RUNS,
             (4, 13),
             &[
-                gap(0, 4, 105),
+                gap(1, 4, 105),
                 gap(5, 8, 31),
                 hit(9, 15),
                 gap(10, 10, 15),
@@ -318,7 +377,16 @@ pub fn instances() -> Vec<Instance> {
             "halving rounds down",
             &[tens(7), vec![55]],
             (2, 4),
-            &[gap(0, 54, 2), gap(55, 59, 1), gap(60, M, 2)],
+            &rounded_down,
+            accepted(0, 3, 57, [3, 1]),
+        ),
+        // The first search starts at the first bin and not at the mark, from
+        // which it would probe other places.
+        Instance::new(
+            "halving rounds down, with the mark",
+            &[marked(&[tens(7)]).concat(), vec![55]],
+            (2, 4),
+            &rounded_down,
             accepted(0, 3, 57, [3, 1]),
         ),
         Instance::new(
@@ -333,7 +401,7 @@ pub fn instances() -> Vec<Instance> {
             "no answer at the largest number",
             &[[3], [M]],
             (2, 0),
-            &[gap(0, M - 1, 2), gap(M, M, 1)],
+            &[gap(1, M - 1, 2), gap(M, M, 1)],
             accepted(0, 2, 38, [0, 0]),
         ),
         Instance::new("no runs", &none, (1, 0), &[], refused_first(1, 0)),
@@ -344,6 +412,21 @@ pub fn instances() -> Vec<Instance> {
             (1, 0),
             &[],
             refused_first(4, 1),
+        ),
+        Instance::new(
+            "a run that repeats the mark",
+            &[[0, 0, 5]],
+            (1, 0),
+            &[],
+            refused_first(4, 1),
+        ),
+        // Places are those of the numbers as lent, marks included.
+        Instance::new(
+            "the mark after a bin",
+            &[vec![0, 3], vec![0, 5, 0]],
+            (1, 0),
+            &[],
+            refused_first(4, 4),
         ),
     ];
     // Cut in its doubling, at the seam and in its halving.
@@ -359,7 +442,7 @@ pub fn instances() -> Vec<Instance> {
     for k in 1..=64 {
         let runs = vec![[7]; k as usize];
         let mask = u64::MAX >> (64 - k);
-        let parts = [gap(0, 6, mask), hit(7, mask), gap(8, M, mask)];
+        let parts = [gap(1, 6, mask), hit(7, mask), gap(8, M, mask)];
         let named = |rest: &str| format!("{k} equal runs, {rest}");
         let whole = accepted(1, 3, 53, [0, 0]);
         let above = refused_first(2, u64::from(k) + 1);
@@ -377,7 +460,9 @@ pub fn instances() -> Vec<Instance> {
 pub fn checked_instances() -> Vec<(Vec<u8>, Verdict)> {
     let parts = THREE_RUNS_PARTS;
     let whole = encode(&parts);
-    let with_mask_11 = [&[gap(0, 1, 11)], &parts[1..]].concat();
+    let with_mask_11 = [&[gap(1, 1, 11)], &parts[1..]].concat();
+    let from_0 = [&[gap(0, 1, 3)], &parts[1..]].concat();
+    let and_before = |part| encode(&[&[part], &parts[..]].concat());
     let and_then = |part| encode(&[&parts[..2], &[part]].concat());
     let refused = |number, place| Verdict::Invalid { number, place };
     let accepted = Verdict::Valid {
@@ -394,6 +479,11 @@ pub fn checked_instances() -> Vec<(Vec<u8>, Verdict)> {
         (encode(&parts[..2]), refused(9, 38)),
         (and_then(hit(5, 1)), refused(10, 38)),
         (and_then(hit(5, 5)), refused(11, 38)),
-        (encode(&[gap(0, M, 7)]), refused(11, 0)),
+        (encode(&[gap(1, M, 7)]), refused(11, 0)),
+        (encode(&[gap(0, M, 7)]), refused(9, 0)),
+        // True but for bin 0, which they cover too.
+        (encode(&from_0), refused(9, 0)),
+        (and_before(gap(0, 0, 7)), refused(9, 0)),
+        (and_before(hit(0, 7)), refused(9, 0)),
     ]
 }

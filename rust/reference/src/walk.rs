@@ -1,6 +1,7 @@
 //! The walk (docs/SPECIFICATION.md, 'The walk'), apart from where its parts and
 //! probes go.
 
+use crate::bins::FIRST_BIN;
 use crate::first_checks::MAX_RUNS;
 use crate::heads::Heads;
 use crate::mask::{bit, named_runs};
@@ -20,8 +21,8 @@ pub(crate) trait Recorder {
 }
 
 /// Walks the runs that `chosen` names and no others, each under its number
-/// among all runs. They pass the first checks with `threshold`. Returns the
-/// number of the refusal if the recorder ends it.
+/// among all runs, by their bins. They pass the first checks with `threshold`.
+/// Returns the number of the refusal if the recorder ends it.
 pub(crate) fn walk<R: Recorder>(
     runs: &[&[u32]; MAX_RUNS],
     chosen: u64,
@@ -30,7 +31,7 @@ pub(crate) fn walk<R: Recorder>(
 ) -> Result<(), u8> {
     let mut position = [0; MAX_RUNS];
     let mut heads = Heads::new(runs, chosen);
-    let mut floor = 0;
+    let mut floor = FIRST_BIN;
     loop {
         // Steps 1 and 2.
         let Some(v) = heads.nth_smallest(threshold) else {

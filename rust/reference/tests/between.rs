@@ -1,4 +1,4 @@
-//! The numbers of one list between two numbers.
+//! The bins of one list between two numbers.
 
 mod common;
 
@@ -13,7 +13,7 @@ fn agrees(list: &[u32], first: u32, last: u32) {
     let expected: Vec<u32> = list
         .iter()
         .copied()
-        .filter(|&x| rises && first <= x && x <= last)
+        .filter(|&x| rises && x > 0 && first <= x && x <= last)
         .collect();
     assert_eq!(list[places], expected, "{list:?} from {first} to {last}");
 }
@@ -25,8 +25,19 @@ fn both_ends_belong_to_it() {
     assert_eq!(between(&list, 5, 5), 1..2);
     assert_eq!(between(&list, 3, 8), 1..2);
     assert_eq!(between(&list, 0, M), 0..3);
-    assert_eq!(between(&[0, M], 0, 0), 0..1);
-    assert_eq!(between(&[0, M], M, M), 1..2);
+    assert_eq!(between(&[1, M], 1, 1), 0..1);
+    assert_eq!(between(&[1, M], M, M), 1..2);
+}
+
+#[test]
+fn a_0_is_never_shown() {
+    assert_eq!(between(&[0, 3, 5], 0, 3), 1..2);
+    assert_eq!(between(&[0, 3, 5], 0, M), 1..3);
+    assert_eq!(between(&[0, M], 0, M), 1..2);
+    for list in [&[0, 3, 5][..], &[0], &[0, 1]] {
+        assert!(between(list, 0, 0).is_empty());
+    }
+    assert!(between(&[0], 0, M).is_empty());
 }
 
 #[test]
@@ -40,7 +51,7 @@ fn an_empty_part() {
 
 #[test]
 fn a_list_that_does_not_rise() {
-    for list in [[3, 3], [4, 3], [M, 0]] {
+    for list in [[3, 3], [4, 3], [M, 0], [0, 0]] {
         assert!(between(&list, 0, M).is_empty());
     }
     // The fault may lie outside the numbers asked for.
@@ -52,6 +63,7 @@ fn a_list_that_does_not_rise() {
 fn no_limit_on_the_length() {
     let list: Vec<u32> = (0..1_100_000).map(|x| 2 * x).collect();
     assert_eq!(between(&list, 1, 2_199_997), 1..1_099_999);
+    assert_eq!(between(&list, 0, M), 1..1_100_000);
 }
 
 #[test]

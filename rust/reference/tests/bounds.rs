@@ -1,6 +1,6 @@
 //! Binary digits and the bound on probes.
 
-use reference::testing::{bound_instances, lay_out, M, THREE_RUNS};
+use reference::testing::{bound_instances, lay_out, marked, M, THREE_RUNS};
 use reference::{digits, probe_bound, probe_bound_chosen, Refusal};
 
 fn refused(number: u8, place: u64) -> Result<u64, Refusal> {
@@ -25,6 +25,15 @@ fn the_bound_is_a_sum_over_the_runs() {
     assert_eq!(probe_bound(&[3, 7, 9], 6), Ok(2 * 6 * (2 + 3 + 2)));
     assert_eq!(probe_bound(&[1_048_576], 1), Ok(42));
     assert_eq!(probe_bound(&[1_048_576; 64], M), Ok(42 * u64::from(M)));
+}
+
+/// The numbers are counted as lent, so the marks are among them: they may add a
+/// digit and never take one away.
+#[test]
+fn marks_are_counted() {
+    let (_, ends) = lay_out(&marked(&THREE_RUNS));
+    assert_eq!(probe_bound(&ends, 6), Ok(2 * 6 * (3 + 3 + 2)));
+    assert_eq!(probe_bound_chosen(&ends, 6, 6), Ok(2 * 6 * (3 + 2)));
 }
 
 #[test]

@@ -60,19 +60,19 @@ fn with_part(i: usize, part: Part) -> Verdict {
 
 #[test]
 fn refusal_10_where_a_run_is_named_that_is_not_chosen() {
-    // Run 1 holds neither 0 nor 1, so what the parts say of it would be true.
-    assert_eq!(with_part(0, gap(0, 0, 7)), invalid(10, 0));
+    // Run 1 holds neither 3 nor 4, so what the parts say of it would be true.
+    assert_eq!(with_part(2, gap(3, 4, 7)), invalid(10, 30));
     // Run 1 holds 5 and 9.
-    assert_eq!(with_part(4, hit(5, 3)), invalid(10, 68));
-    assert_eq!(with_part(6, hit(9, 7)), invalid(10, 102));
-    assert_eq!(with_part(6, hit(9, 2)), invalid(10, 102));
+    assert_eq!(with_part(3, hit(5, 3)), invalid(10, 49));
+    assert_eq!(with_part(5, hit(9, 7)), invalid(10, 83));
+    assert_eq!(with_part(5, hit(9, 2)), invalid(10, 83));
     // Run 1 has a number from 6 to 8: 10 comes before 11.
-    assert_eq!(with_part(5, gap(6, 8, 7)), invalid(10, 83));
+    assert_eq!(with_part(4, gap(6, 8, 7)), invalid(10, 64));
     for bit in 3..64 {
-        assert_eq!(with_part(0, gap(0, 0, 5 | 1 << bit)), invalid(10, 0));
+        assert_eq!(with_part(2, gap(3, 4, 5 | 1 << bit)), invalid(10, 30));
     }
     // 9 comes before 10.
-    assert_eq!(with_part(5, gap(7, 8, 7)), invalid(9, 83));
+    assert_eq!(with_part(4, gap(7, 8, 7)), invalid(9, 64));
 }
 
 /// A gap names at least c - t + 1 runs, c being the number of chosen ones.
@@ -81,11 +81,11 @@ fn names_are_counted_among_the_chosen() {
     let (numbers, ends) = lay_out(&THREE_RUNS);
     let verdict = |mask, t, parts: &[Part]| check_chosen(&numbers, &ends, mask, t, &encode(parts));
     // With t = 1 both chosen runs are named, with t = 2 one of them is enough.
-    assert_eq!(verdict(6, 1, &[gap(0, 0, 4)]), invalid(10, 0));
-    assert_eq!(verdict(6, 1, &[gap(0, 0, 6)]), invalid(9, 19));
-    let parts = [gap(0, 8, 4), hit(9, 6), gap(10, M, 4)];
+    assert_eq!(verdict(6, 1, &[hit(1, 4), gap(2, 4, 4)]), invalid(10, 15));
+    assert_eq!(verdict(6, 1, &[hit(1, 4), gap(2, 4, 6)]), invalid(9, 34));
+    let parts = [gap(1, 8, 4), hit(9, 6), gap(10, M, 4)];
     assert_eq!(verdict(6, 2, &parts), invalid(11, 0));
-    let parts = [gap(0, 4, 2), gap(5, 8, 4), hit(9, 6), gap(10, M, 4)];
+    let parts = [gap(1, 4, 2), gap(5, 8, 4), hit(9, 6), gap(10, M, 4)];
     assert_eq!(verdict(6, 2, &parts), valid(1, 4));
     assert_eq!(verdict(7, 2, &parts), invalid(10, 0));
     assert_eq!(verdict(7, 3, &parts), invalid(10, 38));
@@ -110,7 +110,7 @@ fn sixty_four_runs() {
     let numbers = [7; 64];
     let ends: Vec<u32> = (1..=64).collect();
     for mask in [u64::MAX, 1 << 63, 1, u64::MAX << 1] {
-        let parts = [gap(0, 6, mask), hit(7, mask), gap(8, M, mask)];
+        let parts = [gap(1, 6, mask), hit(7, mask), gap(8, M, mask)];
         let verdict = |mask, t| check_chosen(&numbers, &ends, mask, t, &encode(&parts));
         assert_eq!(verdict(mask, mask.count_ones()), valid(1, 3));
         assert_eq!(verdict(mask, 1), valid(1, 3));

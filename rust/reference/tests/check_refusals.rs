@@ -94,7 +94,7 @@ fn refusal_8_where_a_length_is_not_the_tags() {
         }
     }
     // Enough bytes follow, and still the length is not the tag's.
-    let mut bytes = encode(&[gap(0, M, 7)]);
+    let mut bytes = encode(&[gap(1, M, 7)]);
     bytes[1] = 17;
     bytes.push(0);
     assert_eq!(verdict(&bytes), invalid(8, 0));
@@ -106,13 +106,13 @@ fn refusal_8_where_a_length_is_not_the_tags() {
 #[test]
 fn refusal_9_where_the_first_is_not_the_next_uncovered_bin() {
     // A hole.
-    assert_eq!(with_part(0, gap(1, 1, 3)), invalid(9, 0));
-    assert_eq!(with_part(0, gap(0, 0, 3)), invalid(9, 19));
+    assert_eq!(with_part(0, gap(2, 2, 3)), invalid(9, 0));
+    assert_eq!(with_part(1, gap(2, 3, 6)), invalid(9, 38));
     assert_eq!(with_part(2, hit(6, 3)), invalid(9, 38));
     // An overlap.
     assert_eq!(with_part(1, gap(1, 4, 6)), invalid(9, 19));
     assert_eq!(with_part(2, hit(4, 3)), invalid(9, 38));
-    assert_eq!(with_part(3, gap(0, 8, 5)), invalid(9, 53));
+    assert_eq!(with_part(3, gap(1, 8, 5)), invalid(9, 53));
     // A part twice.
     let mut parts = THREE_RUNS_PARTS.to_vec();
     parts.insert(2, gap(2, 4, 6));
@@ -121,6 +121,35 @@ fn refusal_9_where_the_first_is_not_the_next_uncovered_bin() {
     let mut parts = THREE_RUNS_PARTS.to_vec();
     parts.remove(2);
     assert_eq!(verdict(&encode(&parts)), invalid(9, 38));
+}
+
+/// 0 is no bin, so no part begins there, whatever it says.
+#[test]
+fn refusal_9_where_a_certificate_begins_at_0() {
+    let runs = [vec![0, 5], vec![0, 5, 7]];
+    let (numbers, ends) = lay_out(&runs);
+    let whole = [gap(1, 4, 3), hit(5, 3), gap(6, M, 1)];
+    let verdict = |parts: &[Part]| check(&numbers, &ends, 2, &encode(parts));
+    assert_eq!(verdict(&whole), valid(1, 3));
+    for mask in [0, 1, 2, 3, u64::MAX] {
+        for front in [gap(0, 0, mask), hit(0, mask), gap(0, M, mask)] {
+            let parts = [&[front], &whole[..]].concat();
+            assert_eq!(verdict(&parts), invalid(9, 0));
+            assert!(!is_true(&slices(&runs), 2, &parts));
+        }
+        let widened = [gap(0, 4, mask), whole[1], whole[2]];
+        assert_eq!(verdict(&widened), invalid(9, 0));
+    }
+}
+
+/// A 0 at the start of a run contradicts no part and is held by none.
+#[test]
+fn a_mark_contradicts_nothing() {
+    let verdict = |run: &[u32], parts: &[Part]| check(run, &[run.len() as u32], 1, &encode(parts));
+    assert_eq!(verdict(&[0], &[gap(1, M, 1)]), valid(0, 1));
+    assert_eq!(verdict(&[0, 1], &[gap(1, M, 1)]), invalid(11, 0));
+    assert_eq!(verdict(&[0, 1], &[hit(1, 1), gap(2, M, 1)]), valid(1, 2));
+    assert_eq!(verdict(&[0, 2], &[hit(1, 1), gap(2, M, 1)]), invalid(11, 0));
 }
 
 #[test]
@@ -137,8 +166,10 @@ fn refusal_9_where_nothing_is_uncovered() {
     for part in [
         gap(0, M, 7),
         gap(0, 0, 7),
+        gap(1, M, 7),
         gap(M, M, 5),
         hit(0, 7),
+        hit(1, 7),
         hit(M, 0),
     ] {
         let mut bytes = whole.clone();
@@ -181,7 +212,7 @@ fn refusal_9_at_the_end() {
 #[test]
 fn refusal_10_where_a_mask_names_a_run_not_below_k() {
     for bit in 3..64 {
-        assert_eq!(with_part(0, gap(0, 1, 3 | 1 << bit)), invalid(10, 0));
+        assert_eq!(with_part(0, gap(1, 1, 3 | 1 << bit)), invalid(10, 0));
         assert_eq!(with_part(4, hit(9, 7 | 1 << bit)), invalid(10, 72));
     }
     assert_eq!(with_part(1, gap(2, 4, u64::MAX)), invalid(10, 19));
@@ -197,30 +228,31 @@ fn refusal_10_where_a_mask_names_too_few() {
     // With t = 3 a gap needs one run and an answer three.
     let (numbers, ends) = lay_out(&THREE_RUNS);
     let verdict = |parts: &[Part]| check(&numbers, &ends, 3, &encode(parts));
-    let parts = [gap(0, 4, 2), gap(5, 8, 4), hit(9, 7), gap(10, M, 1)];
+    let parts = [gap(1, 4, 2), gap(5, 8, 4), hit(9, 7), gap(10, M, 1)];
     assert_eq!(verdict(&parts), valid(1, 4));
-    assert_eq!(verdict(&[gap(0, 4, 0)]), invalid(10, 0));
-    let parts = [gap(0, 4, 2), gap(5, 8, 4), hit(9, 6)];
+    assert_eq!(verdict(&[gap(1, 4, 0)]), invalid(10, 0));
+    let parts = [gap(1, 4, 2), gap(5, 8, 4), hit(9, 6)];
     assert_eq!(verdict(&parts), invalid(10, 38));
     // With t = 1 a gap needs three and an answer one.
     let verdict = |parts: &[Part]| check(&numbers, &ends, 1, &encode(parts));
-    assert_eq!(verdict(&[gap(0, 0, 3)]), invalid(10, 0));
-    assert_eq!(verdict(&[gap(0, 0, 7), hit(1, 0)]), invalid(10, 19));
-    assert_eq!(verdict(&[gap(0, 0, 7), hit(1, 4)]), invalid(9, 34));
+    assert_eq!(verdict(&[hit(1, 0)]), invalid(10, 0));
+    assert_eq!(verdict(&[hit(1, 4)]), invalid(9, 15));
+    let parts = [hit(1, 4), hit(2, 1), gap(3, 4, 3)];
+    assert_eq!(verdict(&parts), invalid(10, 30));
 }
 
 #[test]
 fn every_bit_names_a_run_when_there_are_64() {
     let runs = vec![vec![7_u32]; 64];
     let (numbers, ends) = lay_out(&runs);
-    let parts = [gap(0, 6, u64::MAX), hit(7, u64::MAX), gap(8, M, 1 << 63)];
+    let parts = [gap(1, 6, u64::MAX), hit(7, u64::MAX), gap(8, M, 1 << 63)];
     let verdict = check(&numbers, &ends, 64, &encode(&parts));
     assert_eq!(verdict, valid(1, 3));
     // With 63 runs the highest bit names none.
     let verdict = check(&numbers[..63], &ends[..63], 63, &encode(&parts));
     assert_eq!(verdict, invalid(10, 0));
     let parts = [
-        gap(0, 6, 1 << 62),
+        gap(1, 6, 1 << 62),
         hit(7, u64::MAX >> 1),
         gap(8, M, 1 << 63),
     ];
@@ -232,7 +264,7 @@ fn every_bit_names_a_run_when_there_are_64() {
 fn refusal_11_where_a_named_run_contradicts() {
     // A run of a gap has a number in it: at its first, at its last, inside.
     assert_eq!(with_part(1, gap(2, 4, 3)), invalid(11, 19));
-    assert_eq!(with_part(0, gap(0, 1, 5)), invalid(11, 0));
+    assert_eq!(with_part(0, gap(1, 1, 5)), invalid(11, 0));
     assert_eq!(with_part(3, gap(6, 8, 3)), invalid(11, 53));
     assert_eq!(with_part(5, gap(10, M, 3)), invalid(11, 87));
     assert_eq!(with_part(1, gap(2, 5, 6)), invalid(11, 19));
@@ -268,13 +300,13 @@ fn each_field_is_settled_before_the_next() {
     parts[1] = bad_11;
     parts[2] = hit(6, 0);
     assert_eq!(verdict(&encode(&parts)), invalid(11, 19));
-    let mut bytes = encode(&[gap(0, 1, 3), bad_11]);
+    let mut bytes = encode(&[gap(1, 1, 3), bad_11]);
     bytes.extend([7, 7, 7]);
     assert_eq!(verdict(&bytes), invalid(11, 19));
-    let mut bytes = encode(&[gap(0, 1, 1)]);
+    let mut bytes = encode(&[gap(1, 1, 1)]);
     bytes.push(2);
     assert_eq!(verdict(&bytes), invalid(10, 0));
-    let mut bytes = encode(&[gap(1, 1, 3)]);
+    let mut bytes = encode(&[gap(2, 2, 3)]);
     bytes.push(2);
     assert_eq!(verdict(&bytes), invalid(9, 0));
 }
@@ -285,7 +317,6 @@ fn certificates_of_other_writers() {
     assert_eq!(with_part(4, hit(9, 3)), valid(2, 6));
     // Gaps cut into pieces with other masks.
     let parts = [
-        gap(0, 0, 7),
         gap(1, 1, 3),
         gap(2, 2, 6),
         gap(3, 4, 7),
@@ -299,7 +330,7 @@ fn certificates_of_other_writers() {
         gap(13, M - 1, 7),
         gap(M, M, 3),
     ];
-    assert_eq!(verdict(&encode(&parts)), valid(2, 13));
+    assert_eq!(verdict(&encode(&parts)), valid(2, 12));
 }
 
 /// A bin that enough runs hold must be an answer: as a gap of its own it
@@ -313,15 +344,17 @@ fn an_answer_cannot_be_hidden_in_a_gap() {
 
 #[test]
 fn both_ends_of_the_line() {
-    let verdict = |parts: &[Part]| check(&[0, M], &[2], 1, &encode(parts));
-    let whole = [hit(0, 1), gap(1, M - 1, 1), hit(M, 1)];
+    let verdict = |parts: &[Part]| check(&[1, M], &[2], 1, &encode(parts));
+    let whole = [hit(1, 1), gap(2, M - 1, 1), hit(M, 1)];
     assert_eq!(verdict(&whole), valid(2, 3));
     assert_eq!(verdict(&whole[..2]), invalid(9, 34));
-    assert_eq!(verdict(&[gap(0, M, 1)]), invalid(11, 0));
-    assert_eq!(verdict(&[hit(0, 1), gap(1, M, 1)]), invalid(11, 15));
-    // After M the next uncovered bin is not 0 again.
-    let again = [whole[0], whole[1], whole[2], hit(0, 1)];
-    assert_eq!(verdict(&again), invalid(9, 49));
+    assert_eq!(verdict(&[gap(1, M, 1)]), invalid(11, 0));
+    assert_eq!(verdict(&[hit(1, 1), gap(2, M, 1)]), invalid(11, 15));
+    // After M the next uncovered bin is not 0 or 1 again.
+    for value in [0, 1] {
+        let again = [whole[0], whole[1], whole[2], hit(value, 1)];
+        assert_eq!(verdict(&again), invalid(9, 49));
+    }
 }
 
 #[test]

@@ -84,7 +84,7 @@ fn the_largest_threshold_and_allowance() {
     refuses("4294967295 4294967295\n5\n", 2, u64::from(M));
     prints(
         "1 4294967295\n5\n",
-        "gap 0 4 1\nhit 5 1\ngap 6 4294967295 1\ndone 1 3 0 0\n",
+        "gap 1 4 1\nhit 5 1\ngap 6 4294967295 1\ndone 1 3 0 0\n",
     );
 }
 
@@ -96,11 +96,11 @@ fn no_runs() {
 
 #[test]
 fn empty_runs() {
-    prints("1 0\n\n", "gap 0 4294967295 1\ndone 0 1 0 0\n");
-    prints("2 0\n\n\n\n", "gap 0 4294967295 7\ndone 0 1 0 0\n");
+    prints("1 0\n\n", "gap 1 4294967295 1\ndone 0 1 0 0\n");
+    prints("2 0\n\n\n\n", "gap 1 4294967295 7\ndone 0 1 0 0\n");
     prints(
         "1 0\n\n4294967295\n\n",
-        "gap 0 4294967294 7\nhit 4294967295 2\ndone 1 2 0 0\n",
+        "gap 1 4294967294 7\nhit 4294967295 2\ndone 1 2 0 0\n",
     );
 }
 
@@ -111,7 +111,28 @@ fn leading_zeros() {
     assert_eq!(hits(plain.as_bytes(), false), hits(zeros.as_bytes(), false));
     let many = format!("1 0\n{}7\n", "0".repeat(50_000));
     assert_eq!(hits(many.as_bytes(), false), hits(b"1 0\n7\n", false));
-    prints("1 0\n00\n", "hit 0 1\ngap 1 4294967295 1\ndone 1 2 0 0\n");
+    // A number that is 0, however it is written, is the unmapped mark.
+    prints("1 0\n00\n", "gap 1 4294967295 1\ndone 0 1 0 0\n");
+}
+
+#[test]
+fn the_unmapped_mark() {
+    let plain = "2 3\n2 5 9\n5 7 9 12\n1 9\n";
+    let marked = "2 3\n0 2 5 9\n0 5 7 9 12\n0 1 9\n";
+    assert_eq!(
+        hits(marked.as_bytes(), false),
+        hits(plain.as_bytes(), false)
+    );
+    prints(
+        "1 0\n0 4294967295\n",
+        "gap 1 4294967294 1\nhit 4294967295 1\ndone 1 2 0 0\n",
+    );
+    prints(
+        "2 0\n0 1\n0 1\n",
+        "hit 1 3\ngap 2 4294967295 3\ndone 1 2 0 0\n",
+    );
+    refuses("1 0\n0 0 5\n", 4, 1);
+    refuses("1 0\n0 3\n0 5 0\n", 4, 4);
 }
 
 #[test]
@@ -191,7 +212,7 @@ fn run_65() {
     let runs = |count: usize| format!("1 0\n{}", "\n".repeat(count));
     prints(
         runs(64),
-        &format!("gap 0 4294967295 {}\ndone 0 1 0 0\n", u64::MAX),
+        &format!("gap 1 4294967295 {}\ndone 0 1 0 0\n", u64::MAX),
     );
     refuses(runs(65), 12, 66);
     refuses(runs(70), 12, 66);
@@ -236,7 +257,7 @@ fn number_1025() {
 
 #[test]
 fn the_largest_output_fits_the_buffers() {
-    let numbers: Vec<String> = (0..1024).map(|i| (3 * i + 1).to_string()).collect();
+    let numbers: Vec<String> = (0..1024).map(|i| (3 * i + 2).to_string()).collect();
     let input = format!("1 0\n{}\n", numbers.join(" "));
     let output = String::from_utf8(hits(input.as_bytes(), false)).unwrap();
     assert!(output.ends_with("done 1024 2049 0 0\n"));
@@ -290,7 +311,7 @@ fn sixty_four_equal_runs() {
     let mask = u64::MAX;
     prints(
         format!("64 0\n{}", "7\n".repeat(64)),
-        &format!("gap 0 6 {mask}\nhit 7 {mask}\ngap 8 {M} {mask}\ndone 1 3 0 0\n"),
+        &format!("gap 1 6 {mask}\nhit 7 {mask}\ngap 8 {M} {mask}\ndone 1 3 0 0\n"),
     );
 }
 

@@ -81,7 +81,7 @@ fn three_runs_bytes() {
     query(&numbers, &ends, 2, 3, &mut [0; 2], &mut certificate);
     #[rustfmt::skip]
     let expected = [
-        2, 16, 0, 0, 0, 0, 0, 1, 0, 0, 0, 3, 0, 0, 0, 0, 0, 0, 0,
+        2, 16, 0, 1, 0, 0, 0, 1, 0, 0, 0, 3, 0, 0, 0, 0, 0, 0, 0,
         2, 16, 0, 2, 0, 0, 0, 4, 0, 0, 0, 6, 0, 0, 0, 0, 0, 0, 0,
         1, 12, 0, 5, 0, 0, 0, 3, 0, 0, 0, 0, 0, 0, 0,
         2, 16, 0, 6, 0, 0, 0, 8, 0, 0, 0, 5, 0, 0, 0, 0, 0, 0, 0,
@@ -94,7 +94,7 @@ fn three_runs_bytes() {
 #[test]
 fn the_checker_on_a_run_that_repeats_a_number() {
     assert_eq!(
-        check(&[3, 3], &[2], 1, &encode(&[gap(0, M, 1)])),
+        check(&[3, 3], &[2], 1, &encode(&[gap(1, M, 1)])),
         Verdict::Invalid {
             number: 4,
             place: 1
@@ -115,7 +115,7 @@ fn an_empty_certificate() {
 
 #[test]
 fn the_printed_listing() {
-    let printed = "gap 0 1 3\n\
+    let printed = "gap 1 1 3\n\
                    gap 2 4 6\n\
                    hit 5 3\n\
                    gap 6 8 5\n\

@@ -4,13 +4,13 @@
 
 mod common;
 
-use common::{any_runs, counted_answers, long_and_short, Event, Limited, PlainWalk};
+use common::{any_runs, counted_answers, long_and_short, mapped, Event, Limited, PlainWalk};
 use reference::testing::{
     choose, gap, hit, lay_out, many_row, renumber, slices, small_inputs, Random, M,
 };
 use reference::{
-    all_runs, check_chosen, decode, encode, fewest_parts, is_true_chosen, probe_bound_chosen,
-    query, query_many, Outcome, Part, Probes, Verdict,
+    all_runs, check_chosen, decode, digits, encode, fewest_parts, is_true_chosen,
+    probe_bound_chosen, query, query_many, Outcome, Part, Probes, Verdict,
 };
 
 /// Questions over some runs, each with its whole walk.
@@ -167,8 +167,11 @@ fn whole_walks(random: &mut Random, asked: &Asked) {
         };
         let verdict = check_chosen(&numbers, &ends, mask, threshold, &encode(&parts));
         assert_eq!(verdict, valid);
-        let bound = probe_bound_chosen(&ends, mask, parts.len() as u32).unwrap();
+        // The sum over the runs' bins; that of the numbers as lent is no smaller.
+        let digits = |run: &&[u32]| u64::from(digits(mapped(run).len() as u64));
+        let bound = 2 * parts.len() as u64 * chosen.iter().map(digits).sum::<u64>();
         assert!(walk.probes().total() <= bound);
+        assert!(probe_bound_chosen(&ends, mask, parts.len() as u32).unwrap() >= bound);
         bounds += bound;
     }
     let row = asked.compare(random, bounds as u32, room);
@@ -186,7 +189,7 @@ fn whole_walks_of_random_runs() {
     }
 }
 
-/// All runs over four bins, two at each end of the line, with every choice of
+/// All runs over the mark, the first bin and the last two, with every choice of
 /// them and every threshold.
 #[test]
 fn every_choice_of_small_inputs() {

@@ -86,7 +86,8 @@ fn refusal_3_above_the_largest_count_of_numbers() {
         &mut vec![0; MAX_NUMBERS],
         &mut vec![0; 15 * MAX_NUMBERS + 19],
     );
-    let count = MAX_NUMBERS as u64;
+    // The 0 counts as a number and is no answer.
+    let count = MAX_NUMBERS as u64 - 1;
     assert_eq!(outcome, accepted(count, count + 1, 15 * count + 19, [0, 0]));
 }
 
@@ -101,6 +102,30 @@ fn refusal_4_at_the_first_number_that_does_not_rise() {
     refused_first(&[M, 0], &[2], 1, 4, 1);
 }
 
+/// The mark is looked at as any number, and counts in places.
+#[test]
+fn refusal_4_at_a_mark_that_does_not_rise() {
+    refused_first(&[0, 0, 5], &[3], 1, 4, 1);
+    refused_first(&[0, 5, 0], &[3], 1, 4, 2);
+    refused_first(&[0, 3, 0, 0, 5], &[2, 5], 1, 4, 3);
+    refused_first(&[0, 3, 0, 5, 5], &[2, 5], 1, 4, 4);
+    assert_eq!(first_checks(&[0, 0, 5, 0], &[1, 3, 4], 3), Ok(()));
+}
+
+/// A 0 at the start of a run is passed over without a probe.
+#[test]
+fn a_mark_takes_no_probe() {
+    let (outcome, answers, bytes) = ask(&[[0, 7], [0, 7]], 2, 0, 1, 53);
+    assert_eq!(outcome, accepted(1, 3, 53, [0, 0]));
+    assert_eq!(answers, [7]);
+    assert_eq!(bytes, encode(&[gap(1, 6, 3), hit(7, 3), gap(8, M, 3)]));
+    // Nor is it a head: the run has none from the beginning.
+    let runs: [&[u32]; 2] = [&[0], &[4]];
+    let (outcome, _, bytes) = ask(&runs, 2, 0, 0, 19);
+    assert_eq!(outcome, accepted(0, 1, 19, [0, 0]));
+    assert_eq!(bytes, encode(&[gap(1, M, 1)]));
+}
+
 #[test]
 fn runs_are_not_compared_with_each_other() {
     assert_eq!(first_checks(&[7, 3, 3, 1], &[1, 2, 3, 4], 4), Ok(()));
@@ -112,13 +137,13 @@ fn empty_runs_have_no_head() {
     let empty: [&[u32]; 3] = [&[], &[], &[]];
     let (outcome, _, bytes) = ask(&empty, 2, 0, 0, 19);
     assert_eq!(outcome, accepted(0, 1, 19, [0, 0]));
-    assert_eq!(bytes, encode(&[gap(0, M, 7)]));
+    assert_eq!(bytes, encode(&[gap(1, M, 7)]));
 
     let some: [&[u32]; 3] = [&[], &[4], &[]];
     let (outcome, answers, bytes) = ask(&some, 1, 0, 1, 53);
     assert_eq!(outcome, accepted(1, 3, 53, [0, 0]));
     assert_eq!(answers, [4]);
-    assert_eq!(bytes, encode(&[gap(0, 3, 7), hit(4, 2), gap(5, M, 7)]));
+    assert_eq!(bytes, encode(&[gap(1, 3, 7), hit(4, 2), gap(5, M, 7)]));
 }
 
 #[test]
@@ -142,7 +167,7 @@ fn a_buffer_is_looked_at_only_when_something_is_due() {
 fn a_search_without_a_probe() {
     let (outcome, _, bytes) = ask(&[[1], [5]], 2, 0, 0, 100);
     assert_eq!(outcome, accepted(0, 2, 38, [0, 0]));
-    assert_eq!(bytes, encode(&[gap(0, 4, 2), gap(5, M, 1)]));
+    assert_eq!(bytes, encode(&[gap(1, 4, 2), gap(5, M, 1)]));
 }
 
 /// Place 1 is probed and place 2 is not, as the run has two numbers.
@@ -151,13 +176,13 @@ fn the_place_after_the_last_number_is_not_probed() {
     let runs: [&[u32]; 2] = [&[1, 2], &[5]];
     let (outcome, _, bytes) = ask(&runs, 2, 1, 0, 100);
     assert_eq!(outcome, accepted(0, 2, 38, [1, 0]));
-    assert_eq!(bytes, encode(&[gap(0, 4, 2), gap(5, M, 1)]));
+    assert_eq!(bytes, encode(&[gap(1, 4, 2), gap(5, M, 1)]));
 }
 
 #[test]
 fn refusal_5_when_the_answers_are_full() {
     let runs = [[2, 4]];
-    let whole = encode(&[gap(0, 1, 1), hit(2, 1), gap(3, 3, 1), hit(4, 1)]);
+    let whole = encode(&[gap(1, 1, 1), hit(2, 1), gap(3, 3, 1), hit(4, 1)]);
     let (outcome, answers, bytes) = ask(&runs, 1, 0, 0, 100);
     assert_eq!(outcome, refused(5, 1, 0, 19, [0, 0]));
     assert!(answers.is_empty());
@@ -233,7 +258,7 @@ fn a_gap_is_named_before_the_searches_of_its_round() {
     let runs: [&[u32]; 3] = [&[1], &[3], &[3]];
     let (outcome, _, bytes) = ask(&runs, 2, 0, 1, 100);
     assert_eq!(outcome, accepted(1, 3, 53, [0, 0]));
-    let parts = [gap(0, 2, 6), hit(3, 6), gap(4, M, 7)];
+    let parts = [gap(1, 2, 6), hit(3, 6), gap(4, M, 7)];
     assert_eq!(decode(&bytes).unwrap(), parts);
 }
 
@@ -242,15 +267,15 @@ fn only_an_answer_at_the_largest_bin_ends_without_a_gap() {
     let (outcome, answers, bytes) = ask(&[[M], [M]], 2, 0, 1, 100);
     assert_eq!(outcome, accepted(1, 2, 34, [0, 0]));
     assert_eq!(answers, [M]);
-    assert_eq!(bytes, encode(&[gap(0, M - 1, 3), hit(M, 3)]));
+    assert_eq!(bytes, encode(&[gap(1, M - 1, 3), hit(M, 3)]));
 
     let (outcome, _, bytes) = ask(&[[5], [M]], 2, 0, 0, 100);
     assert_eq!(outcome, accepted(0, 2, 38, [0, 0]));
-    assert_eq!(bytes, encode(&[gap(0, M - 1, 2), gap(M, M, 1)]));
+    assert_eq!(bytes, encode(&[gap(1, M - 1, 2), gap(M, M, 1)]));
 
     let (outcome, _, bytes) = ask(&[[M - 1], [M]], 1, 0, 2, 100);
     assert_eq!(outcome, accepted(2, 3, 49, [0, 0]));
-    assert_eq!(bytes, encode(&[gap(0, M - 2, 3), hit(M - 1, 1), hit(M, 2)]));
+    assert_eq!(bytes, encode(&[gap(1, M - 2, 3), hit(M - 1, 1), hit(M, 2)]));
 }
 
 /// More than t runs may hold an answer; all are named and move on.
@@ -260,7 +285,7 @@ fn an_answer_names_all_runs_that_hold_it() {
     let (outcome, answers, bytes) = ask(&runs, 2, 1, 9, 100);
     assert_eq!(outcome, accepted(1, 3, 53, [1, 0]));
     assert_eq!(answers, [8]);
-    assert_eq!(bytes, encode(&[gap(0, 7, 14), hit(8, 15), gap(9, M, 7)]));
+    assert_eq!(bytes, encode(&[gap(1, 7, 14), hit(8, 15), gap(9, M, 7)]));
 }
 
 /// A bin that one run less than the threshold holds is left for good.
@@ -269,5 +294,5 @@ fn a_bin_just_missed_is_not_tried_again() {
     let runs: [&[u32]; 3] = [&[5], &[5], &[1, 6]];
     let (outcome, _, bytes) = ask(&runs, 3, 1, 0, 100);
     assert_eq!(outcome, accepted(0, 3, 57, [1, 0]));
-    assert_eq!(bytes, encode(&[gap(0, 4, 3), gap(5, 5, 4), gap(6, M, 3)]));
+    assert_eq!(bytes, encode(&[gap(1, 4, 3), gap(5, 5, 4), gap(6, M, 3)]));
 }

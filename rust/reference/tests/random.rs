@@ -4,7 +4,7 @@
 
 mod common;
 
-use common::{any_runs, any_threshold, counted_answers, long_and_short, PlainWalk};
+use common::{any_runs, any_threshold, counted_answers, long_and_short, mapped, PlainWalk};
 use reference::testing::{accepted, gap, hit, lay_out, slices, small_inputs, Random, M};
 use reference::{
     check, decode, digits, encode, fewest_parts, is_true, probe_bound, query, trace, Outcome, Part,
@@ -35,11 +35,15 @@ fn whole_walk(runs: &[Vec<u32>], threshold: u32, size: Size) {
     assert_eq!(parts.len(), fewest, "{}", context());
     assert!(plain.full_rounds <= parts.len(), "{}", context());
     assert_eq!(whole.searches, plain.searches, "{}", context());
+    // The sum over the runs' bins; that of the numbers as lent is no smaller.
+    let mut bounds = 0;
     for (i, run) in runs.iter().enumerate() {
         assert_eq!(whole.probes[i], plain.probes_in(i), "{}", context());
-        let bound = 2 * fewest as u64 * u64::from(digits(run.len() as u64));
+        let bound = 2 * fewest as u64 * u64::from(digits(mapped(run).len() as u64));
         assert!(whole.probes[i].total() <= bound, "{}", context());
+        bounds += bound;
     }
+    assert!(probe_bound(&ends, fewest as u32).unwrap() >= bounds);
 
     // An allowance of the bound never ends as used up.
     let bytes = encode(&parts);
@@ -49,7 +53,7 @@ fn whole_walk(runs: &[Vec<u32>], threshold: u32, size: Size) {
         &numbers,
         &ends,
         threshold,
-        probe_bound(&ends, fewest as u32).unwrap() as u32,
+        bounds as u32,
         &mut answers,
         &mut certificate,
     );
@@ -75,7 +79,7 @@ fn whole_walk(runs: &[Vec<u32>], threshold: u32, size: Size) {
     );
 }
 
-/// All runs over four bins, two at each end of the line, up to three runs.
+/// All runs over the mark, the first bin and the last two, up to three runs.
 #[test]
 fn all_small_inputs() {
     for k in 1..=3 {
@@ -380,7 +384,7 @@ fn compare_verdict(runs: &[Vec<u32>], threshold: u32, bytes: &[u8]) -> Verdict {
         Verdict::Invalid { number, place } => {
             assert!(!parts.is_some_and(|parts| truth(&parts)));
             let whole = trace(&numbers, &ends, threshold).unwrap().parts;
-            let next = |parts: &[Part]| parts.last().map_or(0, |part| u64::from(part.last()) + 1);
+            let next = |parts: &[Part]| parts.last().map_or(1, |part| u64::from(part.last()) + 1);
             let before = decode(&bytes[..place as usize]).unwrap();
             let uncovered = next(&before);
             let completed = [before.clone(), rest_from(&whole, uncovered)].concat();

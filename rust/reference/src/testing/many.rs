@@ -8,7 +8,7 @@ use crate::{encode, named_runs, ManyOutcome, Part, Refusal, Verdict};
 
 /// The parts of the first two of the three runs with threshold 2.
 pub const FIRST_TWO_PARTS: [Part; 5] = [
-    gap(0, 4, 2),
+    gap(1, 4, 2),
     hit(5, 3),
     gap(6, 8, 1),
     hit(9, 3),
@@ -16,8 +16,7 @@ pub const FIRST_TWO_PARTS: [Part; 5] = [
 ];
 
 /// The parts of the first and the last of the three runs with threshold 1.
-pub const OUTER_TWO_PARTS: [Part; 8] = [
-    gap(0, 0, 5),
+pub const OUTER_TWO_PARTS: [Part; 7] = [
     hit(1, 4),
     hit(2, 1),
     gap(3, 4, 5),
@@ -28,8 +27,7 @@ pub const OUTER_TWO_PARTS: [Part; 8] = [
 ];
 
 /// The parts of the last two of the three runs with threshold 1.
-pub const LAST_TWO_PARTS: [Part; 11] = [
-    gap(0, 0, 6),
+pub const LAST_TWO_PARTS: [Part; 10] = [
     hit(1, 4),
     gap(2, 4, 6),
     hit(5, 2),
@@ -155,8 +153,8 @@ pub fn many_instances() -> Vec<ManyInstance> {
     let last_two = &LAST_TWO_PARTS;
     let three = |row| ManyInstance::new("three questions", &[7, 3, 5], &[2, 2, 1], row);
     let two = |row| ManyInstance::new("two questions", &[7, 6], &[2, 1], row);
-    let whole = three([0, 0, 0, 8, 19, 329, 5, 0])
-        .writing(&[first, second, third], &[2, 106, 4, 193, 8, 329]);
+    let whole = three([0, 0, 0, 8, 18, 310, 5, 0])
+        .writing(&[first, second, third], &[2, 106, 4, 193, 8, 310]);
     let refused = |name, masks: &[u64], thresholds: &[u32], [number, place, question]: [u64; 3]| {
         let row = [number, place, question, 0, 0, 0, 0, 0];
         ManyInstance::new(name, masks, thresholds, row)
@@ -172,7 +170,7 @@ pub fn many_instances() -> Vec<ManyInstance> {
         ManyInstance {
             name: "three questions, exactly what they need",
             allowance: 5,
-            room: [8, 329, 6],
+            room: [8, 310, 6],
             ..whole
         },
         ManyInstance {
@@ -193,33 +191,56 @@ pub fn many_instances() -> Vec<ManyInstance> {
         ManyInstance {
             name: "two questions, room for three answers",
             room: [3, 1_000, 4],
-            ..two([5, 3, 1, 3, 9, 159, 3, 0]).writing(&[first, &last_two[..3]], &[2, 106])
+            ..two([5, 2, 1, 3, 8, 140, 3, 0]).writing(&[first, &last_two[..2]], &[2, 106])
         },
         ManyInstance {
             name: "two questions, room for 130 bytes",
             room: [100, 130, 4],
-            ..two([6, 1, 1, 2, 7, 125, 3, 0]).writing(&[first, &last_two[..1]], &[2, 106])
+            ..two([6, 1, 1, 3, 7, 121, 3, 0]).writing(&[first, &last_two[..1]], &[2, 106])
         },
         ManyInstance {
             name: "two questions, room for the first alone",
-            room: [2, 106, 4],
+            room: [3, 106, 4],
             ..two([6, 0, 1, 2, 6, 106, 3, 0]).writing(&[first], &[2, 106])
+        },
+        ManyInstance {
+            name: "two questions, room for the answers of the first alone",
+            room: [2, 106, 4],
+            ..two([5, 0, 1, 2, 6, 106, 3, 0]).writing(&[first], &[2, 106])
         },
         ManyInstance::new(
             "one question over one run",
             &[4],
             &[1],
-            [0, 0, 0, 2, 5, 87, 0, 0],
+            [0, 0, 0, 2, 4, 68, 0, 0],
         )
         .writing(
-            &[&[
-                gap(0, 0, 4),
-                hit(1, 4),
-                gap(2, 8, 4),
-                hit(9, 4),
-                gap(10, M, 4),
-            ]],
-            &[2, 87],
+            &[&[hit(1, 4), gap(2, 8, 4), hit(9, 4), gap(10, M, 4)]],
+            &[2, 68],
+        ),
+        ManyInstance {
+            runs: vec![vec![0, 4], vec![0, 4, 6]],
+            allowance: 0,
+            ..ManyInstance::new(
+                "runs that begin with the mark",
+                &[1, 2, 3],
+                &[1, 1, 2],
+                [0, 0, 0, 4, 11, 193, 0, 0],
+            )
+        }
+        .writing(
+            &[
+                &[gap(1, 3, 1), hit(4, 1), gap(5, M, 1)],
+                &[
+                    gap(1, 3, 2),
+                    hit(4, 2),
+                    gap(5, 5, 2),
+                    hit(6, 2),
+                    gap(7, M, 2),
+                ],
+                &[gap(1, 3, 3), hit(4, 3), gap(5, M, 1)],
+            ],
+            &[1, 53, 3, 140, 4, 193],
         ),
         twice(14, [0, 0, 0, 0, 6, 114, 8, 6]).writing(&[sixteen, sixteen], &[0, 57, 0, 114]),
         // Cut in the second search's halving, at its seam, and before it.
@@ -268,6 +289,8 @@ pub fn chosen_instances() -> Vec<(u64, u32, Vec<u8>, Verdict)> {
     let of_all = encode(&THREE_RUNS_PARTS);
     let of_first_two = encode(&FIRST_TWO_PARTS);
     let of_outer_two = encode(&OUTER_TWO_PARTS);
+    let from_0 = [&[gap(0, 4, 2)], &FIRST_TWO_PARTS[1..]].concat();
+    let and_before = |part| encode(&[&[part], &FIRST_TWO_PARTS[..]].concat());
     vec![
         (3, 2, of_first_two.clone(), valid(2, 5)),
         (3, 2, of_all.clone(), invalid(10, 19)),
@@ -278,14 +301,19 @@ pub fn chosen_instances() -> Vec<(u64, u32, Vec<u8>, Verdict)> {
         (3, 0, of_first_two.clone(), invalid(2, 0)),
         (8, 0, of_first_two.clone(), invalid(13, 0)),
         (7, 2, of_all, valid(2, 6)),
-        (5, 1, of_outer_two.clone(), valid(4, 8)),
+        (5, 1, of_outer_two.clone(), valid(4, 7)),
         // The answer 1 names one run, and two are needed.
-        (5, 2, of_outer_two, invalid(10, 19)),
+        (5, 2, of_outer_two, invalid(10, 0)),
         // Of all three runs a gap names too few.
         (7, 2, of_first_two.clone(), invalid(10, 0)),
-        // The gap from 0 to 4 names run 1, which is not chosen.
+        // The gap from 1 to 4 names run 1, which is not chosen.
         (5, 2, of_first_two, invalid(10, 0)),
-        (4, 1, encode(&[gap(0, M, 4)]), invalid(11, 0)),
+        (4, 1, encode(&[gap(1, M, 4)]), invalid(11, 0)),
+        (4, 1, encode(&[gap(0, M, 4)]), invalid(9, 0)),
+        // True but for bin 0, which they cover too.
+        (3, 2, encode(&from_0), invalid(9, 0)),
+        (3, 2, and_before(gap(0, 0, 3)), invalid(9, 0)),
+        (3, 2, and_before(hit(0, 3)), invalid(9, 0)),
         (4, 1, vec![], invalid(9, 0)),
     ]
 }

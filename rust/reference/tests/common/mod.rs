@@ -4,7 +4,7 @@
 // Each test file is a program of its own and uses only some of this.
 #![allow(dead_code)]
 
-use reference::testing::{accepted, answers_of, gap, hit, lay_out, refused, slices, Random, M};
+use reference::testing::{accepted, answers_of, gap, hit, lay_out, mark_some, refused, Random, M};
 use reference::{encode, query, Outcome, Part, Probe, Probes};
 use std::collections::BTreeMap;
 
@@ -13,11 +13,17 @@ pub const FILLER: u32 = 0xabab_abab;
 /// The same in a buffer of bytes.
 pub const FILLER_BYTE: u8 = 0xab;
 
+/// The numbers of a run that are no mark.
+pub fn mapped(run: &[u32]) -> &[u32] {
+    let marks = run.iter().filter(|&&x| x == 0).count();
+    &run[marks..]
+}
+
 /// The bins that at least `threshold` runs hold, found by counting.
 pub fn counted_answers<R: AsRef<[u32]>>(runs: &[R], threshold: u32) -> Vec<u32> {
     let mut counts = BTreeMap::new();
     for run in runs {
-        for &x in run.as_ref() {
+        for &x in mapped(run.as_ref()) {
             *counts.entry(x).or_insert(0_u32) += 1;
         }
     }
@@ -65,8 +71,8 @@ pub fn ask<R: AsRef<[u32]>>(
     (outcome, answers, certificate)
 }
 
-/// A bin: near 0, near M, in the middle or anywhere, as `kind` says.
-fn any_bin(random: &mut Random, kind: usize, spread: usize) -> u32 {
+/// A number: near 0, near M, in the middle or anywhere, as `kind` says.
+fn any_number(random: &mut Random, kind: usize, spread: usize) -> u32 {
     let near = random.below(spread) as u32;
     match kind {
         0 => near,
@@ -78,21 +84,26 @@ fn any_bin(random: &mut Random, kind: usize, spread: usize) -> u32 {
     }
 }
 
-/// From 1 to `most_runs` runs of up to `most_numbers` numbers each. Often
-/// the numbers are close together, so that runs share many of them.
+/// From 1 to `most_runs` runs of up to `most_numbers` numbers each, and a mark
+/// in front of some in a third of all cases. Often the numbers are close
+/// together, so that runs share many of them.
 pub fn any_runs(random: &mut Random, most_runs: usize, most_numbers: usize) -> Vec<Vec<u32>> {
     let k = 1 + random.below(most_runs);
     let kind = random.below(5);
     let spread = 1 + random.below(3 * most_numbers);
-    (0..k)
+    let mut runs: Vec<Vec<u32>> = (0..k)
         .map(|_| {
             let length = random.below(most_numbers + 1);
-            let mut run: Vec<u32> = (0..length).map(|_| any_bin(random, kind, spread)).collect();
+            let mut run: Vec<u32> = (0..length)
+                .map(|_| any_number(random, kind, spread))
+                .collect();
             run.sort_unstable();
             run.dedup();
             run
         })
-        .collect()
+        .collect();
+    mark_some(random, &mut runs);
+    runs
 }
 
 /// A long run and one of few numbers from the same range, in any order: a
@@ -109,6 +120,7 @@ pub fn long_and_short(random: &mut Random) -> Vec<Vec<u32>> {
     if random.one_in(2) {
         runs.swap(0, 1);
     }
+    mark_some(random, &mut runs);
     runs
 }
 
@@ -144,8 +156,8 @@ impl PlainWalk {
             full_rounds: 0,
         };
         // Each run's numbers that are not done with.
-        let mut left: Vec<&[u32]> = slices(runs);
-        let mut floor = 0;
+        let mut left: Vec<&[u32]> = runs.iter().map(|run| mapped(run)).collect();
+        let mut floor = 1;
         loop {
             let mut heads: Vec<u32> = left.iter().filter_map(|run| run.first().copied()).collect();
             if heads.len() < t {
