@@ -1,4 +1,4 @@
--- Allowances that are always enough. A search moves its run on by at least one number, so in a run of n numbers a walk makes at most n searches and
+-- Allowances that are always enough. A search moves its run on by at least one number, so in a run of n bins a walk makes at most n searches and
 -- 2 × n × digits n probes. An allowance of the sum of these over the runs is never spent; nor is 2 × n × digits n for n numbers in all, nor 44040192 for
 -- any input. Assumes nothing.
 use Prim.Native.Nat.{ℕ, _*_, _≤_}
@@ -18,7 +18,7 @@ use Rattle.model.proofs.Enough.{listed-numbers, passed-or-refused}
 use Rattle.model.proofs.FirstChecks.{Listed, first-passed, fit}
 use Rattle.model.proofs.Truth.{Fit}
 
--- In a run of n numbers the whole walk makes at most 2 × n × digits n probes.
+-- In a run of n bins the whole walk makes at most 2 × n × digits n probes.
 pub run-probes : {rs : List Run} {t : ℕ} → Fit rs t → (r : Run) → List·Memᴰ r rs → probesIn (r .label) (wholeWalk t rs) ≤ boundIn (length (r .bins)) r
 run-probes g r m = whole-bound g (length (r .bins)) r m (omega arith)
 
@@ -59,7 +59,7 @@ module _ (numbers ends : List ℕ) (t allowance : ℕ) (answers certificate : Li
   spent-passed e =
       ⊎-elim (λ i. i) (λ k. absurd (omega (arith, k .1))) (passed-or-refused numbers ends t allowance answers certificate)
 
-  -- An allowance of 2 × n × digits n for each run of n numbers is enough: refusal 7 never occurs, whatever the input.
+  -- An allowance of 2 × n × digits n for each run of n bins is enough: refusal 7 never occurs, whatever the input.
   pub allowance-enough : total (λ r. boundIn (length (r .bins)) r) (runs numbers ends) ≤ allowance
       → refusedBy (query numbers ends t allowance answers certificate .outcome) ≢ 7
   unfolding query

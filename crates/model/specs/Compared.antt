@@ -78,7 +78,7 @@ digitsFrom (suc fuel) b n = elim (ltb n (2 ^ b)) [ true ↦ b | false ↦ digits
 unfoldable pub digits : ℕ → ℕ
 digits n = digitsFrom n 0 n
 
--- 2 × d × b for a list of n numbers, for one run, and the sum of these bounds over all lists
+-- 2 × d × b for a list of n bins, for one run, and the sum of these bounds over all lists
 unfoldable pub boundOf : ℕ → ℕ → ℕ
 boundOf d n = 2 * d * digits n
 

@@ -74,7 +74,7 @@ pub record Accepts (rs : List Run) (t : ℕ) (certificate : List ℕ) (v : Verdi
   pub every-true : (ps : List Part) → TrueCertificate rs t ps → certificate ≡ encode ps → v ≡ valid (length (answersOf ps)) (length ps)
 
 -- Demand 3, for a certificate of d parts, of a walk with an allowance, which did these events, which a refusal of this number ended, 0 where none did, and
--- which wrote these bytes. The walk's whole certificate has at most d parts, and so no more are written by a walk that stops early. In a list of n numbers
+-- which wrote these bytes. The walk's whole certificate has at most d parts, and so no more are written by a walk that stops early. In a list of n bins
 -- the walk makes at most 2 × d × b probes. The probes are the sum over the lists of those that the walk makes up to where it ends, early or not, and so are
 -- those of either kind. An allowance no smaller than the sum of these bounds over all lists never ends as spent.
 pub record Bounded (rs : List Run) (t allowance : ℕ) (done : List Event) (number parts doublings halvings : ℕ) (bytes : List ℕ) (d : ℕ) : Type 0 where
