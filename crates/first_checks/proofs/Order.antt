@@ -9,7 +9,7 @@ use mathlib.Core.Logic.{_≢_}
 use mathlib.Core.Option.{none, some}
 use mathlib.Core.Path.{_≡_, refl}
 use Rattle.model.specs.Refusals.{Check, passed, refusal, _then_, refuseIf, refuseAt, fallsFrom, lastEnd, unrisenIn, countCheck, thresholdCheck, maskCheck, listChecks}
-use Rattle.model.specs.Runs.{mostNumbers, mostRuns, runs}
+use Rattle.model.specs.Runs.{mostNumbers, mostRuns}
 
 -- ---- checks in order
 

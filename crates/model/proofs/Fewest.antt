@@ -1,15 +1,14 @@
 -- Fewest parts. Where another true certificate has covered up to g, not past the walk's floor f, its next part ends not past the walk's: a gap
 -- that started at or below f and reached v would name a run with a number from f to v, since at least t runs have one there and fewer than
 -- t runs are not named. So the walk's parts are no more than the other's. Assumes nothing.
-use Prim.Native.Nat.{ℕ, zero, suc, _+_, _-_, _≤_, _<_}
+use Prim.Native.Nat.{ℕ, suc, _+_, _-_, _≤_, _<_}
 use borrow.Author.Tests.{leb-true, eqb-true, le-leb}
-use lib.Count.{ones}
-use lib.Dec.{ltb, leb, eqb}
+use lib.Dec.{leb, eqb}
 use lib.ListN.{length}
-use mathlib.Core.Bool.{Bool, true, false}
-use mathlib.Core.List.{List, [], _∷_, _++_, List·Memᴰ, List·Memᴰ·head, List·Memᴰ·tail}
+use mathlib.Core.Bool.{true, false}
+use mathlib.Core.List.{List, [], _∷_, List·Memᴰ, List·Memᴰ·head, List·Memᴰ·tail}
 use mathlib.Core.Logic.{⊎-elim}
-use mathlib.Core.Path.{_≡_, refl, sym, ap, _∙_, subst}
+use mathlib.Core.Path.{_≡_, refl}
 use native.Mathlib.Omega.{arith}
 use Rattle.model.specs.Certificate.{Part, firstOf, lastOf, Covers, covered, covers, TrueGap, TrueAnswer, TruePart, gap-true, answer-true}
 use Rattle.model.specs.Compared.{partsOf}

@@ -1,14 +1,14 @@
 -- Lists and a threshold that pass the first checks: the runs rise, are labelled from 0 on, and can meet the threshold; their number is at most 64. So it is
 -- for the runs that a mask chooses, of which all runs are a case.
 -- Assumes nothing.
-use Prim.Native.Nat.{ℕ, zero, suc, _+_, _-_, _/_, _^_, _≤_, _<_}
-use borrow.Author.Tests.{ltb-true, ltb-false, eqb-false, lt-ltb, le-ltb, eq-eqb, ne-eqb}
+use Prim.Native.Nat.{ℕ, zero, suc, _-_, _/_, _^_, _≤_, _<_}
+use borrow.Author.Tests.{ltb-false, eqb-false, lt-ltb, le-ltb, eq-eqb, ne-eqb}
 use lib.Count.{ones, ones-ones}
 use lib.Dec.{ltb, eqb}
 use lib.ListN.{length, getD, take, drop}
-use mathlib.Core.Bool.{Bool, true, false, _||_, not}
+use mathlib.Core.Bool.{Bool, true, false, not}
 use mathlib.Core.List.{List, [], _∷_, List·Memᴰ, List·Memᴰ·head, List·Memᴰ·tail, List·Memᴰ·not-nil, List·Memᴰ·cases-cons}
-use mathlib.Core.Logic.{⊎-elim, _⊎_, inl, inr, _≢_}
+use mathlib.Core.Logic.{⊎-elim, _⊎_, _≢_}
 use mathlib.Core.Option.{Option, none, some}
 use lib.Pow.{pow-pos, pow-lt}
 use mathlib.Core.Path.{_≡_, refl, sym, ap, _∙_, subst}
@@ -16,7 +16,7 @@ use native.Mathlib.Nat.{div-eq-of-lt, div-lt-iff-lt-mul, one-mul}
 use native.Mathlib.Omega.{arith}
 use Rattle.model.specs.Demands.{Fits}
 use Rattle.model.specs.Refusals.{Check, passed, refusal, _then_, refuseIf, refuseAt, fallsFrom, lastEnd, unrisenIn, countCheck, thresholdCheck, listChecks, maskCheck, firstChecks, chosenChecks}
-use Rattle.model.specs.Runs.{Run, firstBin, pastBin, slice, from, runsFrom, runs, chosen, unrisenAfter, unrisen, mostNumbers, mostRuns}
+use Rattle.model.specs.Runs.{firstBin, pastBin, slice, from, runsFrom, runs, chosen, unrisenAfter, unrisen, mostNumbers, mostRuns}
 use Rattle.model.specs.Rows.{Rise, rise-nil, rise-cons}
 use Rattle.model.proofs.From.{rise-from}
 use Rattle.model.proofs.Masks.{Labelled, labelled-nil, labelled-cons, ascending}

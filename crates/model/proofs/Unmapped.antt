@@ -1,17 +1,16 @@
 -- The unmapped mark, 0. Of a list that rises the numbers from the first bin on are those without a 0 at its start. 0 is no answer of a true certificate, and no
 -- part between two numbers shows it. Assumes nothing.
-use Prim.Native.Nat.{ℕ, zero, suc, _≤_, _<_}
+use Prim.Native.Nat.{ℕ, suc, _≤_, _<_}
 use borrow.Author.Tests.{lt-ltb, le-ltb}
 use lib.Dec.{ltb, leb}
 use mathlib.Core.Bool.{Bool, true, false, _&&_}
 use mathlib.Core.List.{List, [], _∷_, List·Memᴰ, List·Memᴰ·head, List·Memᴰ·tail, List·Memᴰ·not-nil, List·Memᴰ·cases-cons}
 use mathlib.Core.Logic.{⊎-elim}
 use mathlib.Core.Option.{Option, none, some}
-use mathlib.Core.Path.{_≡_, refl, sym, ap, _∙_, subst}
+use mathlib.Core.Path.{_≡_, refl, ap, _∙_, subst}
 use native.Mathlib.Omega.{arith}
 use Rattle.model.specs.Between.{within, between}
 use Rattle.model.specs.Certificate.{Part, answersOf, TrueCertificate}
-use Rattle.model.specs.Demands.{Exact}
 use Rattle.model.specs.Rows.{rank}
 use Rattle.model.specs.Runs.{Run, firstBin, from, unrisenAfter, unrisen, holds}
 use Rattle.model.proofs.Count.{count-some}

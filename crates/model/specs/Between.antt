@@ -1,8 +1,8 @@
 -- docs/SPECIFICATION.md, 'Bins between two numbers'. Definitions only.
 use Prim.Native.Nat.{ℕ}
-use mathlib.Core.Bool.{Bool, true, false, _&&_}
+use mathlib.Core.Bool.{true, false, _&&_}
 use mathlib.Core.List.{List, [], _∷_}
-use mathlib.Core.Option.{Option, none, some}
+use mathlib.Core.Option.{none, some}
 use lib.Dec.{ltb, leb}
 use Rattle.model.specs.Runs.{firstBin, from, unrisen}
 

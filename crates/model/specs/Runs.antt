@@ -1,10 +1,10 @@
 -- docs/SPECIFICATION.md, 'The lists': numbers and ends as runs, and masks over them. Definitions only.
-use Prim.Native.Nat.{ℕ, zero, suc, _+_, _-_, _*_, _/_, _%_, _^_}
+use Prim.Native.Nat.{ℕ, suc, _+_, _-_, _*_, _/_, _%_, _^_}
 use mathlib.Core.Bool.{Bool, true, false}
 use mathlib.Core.List.{List, [], _∷_}
 use mathlib.Core.Option.{Option, none, some}
 use lib.ListN.{take, drop}
-use lib.Dec.{ltb, leb, eqb}
+use lib.Dec.{ltb, eqb}
 
 -- A bin is a whole number from 1 to 4294967295: the first, the last, and the number after the last. 0 is no bin: it is the unmapped mark, which simulators
 -- write for a hit that they could not map.
