@@ -72,17 +72,21 @@ drop-mem (suc n) (y ∷ s) m = List·Memᴰ·tail (drop-mem n s m)
 slice-fits : (w a e : ℕ) (numbers : List ℕ) → Fits w numbers → Fits w (slice numbers a e)
 slice-fits w a e numbers h = record { each = λ x k. h .each x (drop-mem a numbers (take-mem (e - a) (drop a numbers) k)) }
 
--- a list in which no number is out of order rises
-pub risen-after : (i x : ℕ) (s : List ℕ) → unrisenAfter i x s ≡ none → Fits pastBin s → Rise (suc x) s
+-- where no number after x is out of order, the first of them is above x, and none after that is out of order
+pub after-next : (i x y : ℕ) (s : List ℕ) → unrisenAfter i x (y ∷ s) ≡ none → (x < y) × (unrisenAfter (suc i) y s ≡ none)
 unfolding unrisenAfter
-risen-after i x [] e h = rise-nil
-risen-after i x (y ∷ s) e h =
+after-next i x y s e =
     ⊎-elim
-    (λ (q : x < y).
-    rise-cons q (h .each y (List·Memᴰ·head refl))
-    (risen-after (suc i) y s (rw (lt-ltb x y q, unrisenAfter) at e) (record { each = λ z m. h .each z (List·Memᴰ·tail m) })))
+    (λ (q : x < y). (q, rw (lt-ltb x y q, unrisenAfter) at e))
     (λ (q : y ≤ x). let z : some (suc i) ≡ none = rw (le-ltb x y q, unrisenAfter) at e in absurd (let w : _≡_ {A = ℕ} 0 1 = cc in omega arith))
     (lt-or-le x y)
+
+-- a list in which no number is out of order rises
+pub risen-after : (i x : ℕ) (s : List ℕ) → unrisenAfter i x s ≡ none → Fits pastBin s → Rise (suc x) s
+risen-after i x [] e h = rise-nil
+risen-after i x (y ∷ s) e h =
+    let n = after-next i x y s e in
+    rise-cons (n .0) (h .each y (List·Memᴰ·head refl)) (risen-after (suc i) y s (n .1) (record { each = λ z m. h .each z (List·Memᴰ·tail m) }))
 
 pub risen : (i : ℕ) (s : List ℕ) → unrisen i s ≡ none → Fits pastBin s → Rise 0 s
 unfolding unrisen

@@ -1,7 +1,6 @@
 -- The unmapped mark, 0. Of a list that rises the numbers from the first bin on are those without a 0 at its start. 0 is no answer of a true certificate, and no
 -- part between two numbers shows it. Assumes nothing.
 use Prim.Native.Nat.{ℕ, suc, _≤_, _<_}
-use borrow.Author.Tests.{lt-ltb, le-ltb}
 use lib.Dec.{ltb, leb}
 use mathlib.Core.Bool.{Bool, true, false, _&&_}
 use mathlib.Core.List.{List, [], _∷_, List·Memᴰ, List·Memᴰ·head, List·Memᴰ·tail, List·Memᴰ·not-nil, List·Memᴰ·cases-cons}
@@ -15,6 +14,7 @@ use Rattle.model.specs.Rows.{rank}
 use Rattle.model.specs.Runs.{Run, firstBin, from, unrisenAfter, unrisen, holds}
 use Rattle.model.proofs.Count.{count-some}
 use Rattle.model.proofs.Exact.{exact}
+use Rattle.model.proofs.FirstChecks.{after-next}
 use Rattle.model.proofs.From.{from-pass, from-stop, from-nil, rank-pass, rank-stop, rank-nil, rise-least, holds-mem}
 use Rattle.model.proofs.Tests.{both, lt-or-le}
 use Rattle.model.proofs.Truth.{Fit}
@@ -25,15 +25,7 @@ first-is = refl
 
 -- ---- a list that rises
 
--- the first number after x is above it, and so is every other
-after-next : (i x y : ℕ) (s : List ℕ) → unrisenAfter i x (y ∷ s) ≡ none → (x < y) × (unrisenAfter (suc i) y s ≡ none)
-unfolding unrisenAfter
-after-next i x y s e =
-    ⊎-elim
-    (λ (q : x < y). (q, rw (lt-ltb x y q, unrisenAfter) at e))
-    (λ (q : y ≤ x). let z : some (suc i) ≡ none = rw (le-ltb x y q, unrisenAfter) at e in absurd (let w : _≡_ {A = ℕ} 0 1 = cc in omega arith))
-    (lt-or-le x y)
-
+-- every number after x is above it
 after-mem : (i x : ℕ) (s : List ℕ) {y : ℕ} → unrisenAfter i x s ≡ none → List·Memᴰ y s → x < y
 after-mem i x [] e m = absurd (List·Memᴰ·not-nil m)
 after-mem i x (z ∷ s) e m =
