@@ -1,13 +1,14 @@
 /*
  * quorum.h: which bins do at least t of k runs hold?
  *
- * A bin is a number from 1 to 4294967295, a run a rising list of bins. All runs
- * lie one after another in `numbers`; `ends[i]` is the place after the last
- * number of run i, so `ends_len` is the number of runs. Ends are ends and not
- * offsets from 0: runs of 3, 4 and 2 numbers have ends 3, 7, 9, and not 0, 3, 7.
- * A run may be empty. Bit i of a 64-bit mask names run i, bit 0 being the lowest.
+ * A bin is a number from 1 to 4294967295. A run is a rising list of numbers: bins,
+ * and perhaps a 0 before them. All runs lie one after another in `numbers`;
+ * `ends[i]` is the place after the last number of run i, so `ends_len` is the
+ * number of runs. Ends are ends and not offsets from 0: runs of 3, 4 and 2 numbers
+ * have ends 3, 7, 9, and not 0, 3, 7. A run may be empty. Bit i of a 64-bit mask
+ * names run i, bit 0 being the lowest.
  *
- * A run may begin with a 0, the mark of a hit that could not be mapped. It is no
+ * A 0 at the start of a run is the mark of a hit that could not be mapped. It is no
  * bin: it is passed over without a probe, is never an answer, and no certificate
  * speaks of it. It is one of the `numbers`, and counts in ends, in places and
  * towards QUORUM_MAX_NUMBERS. A second 0 does not rise and is refusal 4.

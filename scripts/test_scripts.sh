@@ -80,10 +80,10 @@ answers() { # FORMAT: make run, where the program prints this
   chmod +x "$copy/target/bin/hits"
   env PATH="$work/tools:$PATH" make -C "$copy" --no-print-directory run >"$work/out" 2>"$work/err"
 }
-for whole in 'done 2 6 3 0\n' 'gap 0 1 3\ndone 2 6 3 0\n' 'refuse 12 4\n'; do
+for whole in 'done 2 6 3 0\n' 'gap 1 1 3\ndone 2 6 3 0\n' 'refuse 12 4\n'; do
   answers "$whole" || { echo "fails for a whole answer: $whole" >&2 && exit 1; }
 done
-for cut in '' 'gap 0 1 3\n' 'gap 0 1 3\ndone 2 6' 'done 2 6 3 0\ngap 0 1 3\n' 'refuse' 'doner\n'; do
+for cut in '' 'gap 1 1 3\n' 'gap 1 1 3\ndone 2 6' 'done 2 6 3 0\ngap 1 1 3\n' 'refuse' 'doner\n'; do
   if answers "$cut" || ! grep -q 'did not print a whole answer' "$work/err"; then
     echo "does not fail for an answer that is cut short: $cut" >&2
     exit 1

@@ -37,7 +37,8 @@ sum-all : (k d i a : ℕ) (ends : List ℕ) → i + length ends ≤ k → sumFro
 unfolding sumFrom
 sum-all k d i a [] h = refl
 sum-all k d i a (e ∷ ends) h =
-    rw (eq-eqb (bit (2 ^ k - 1) i) 1 (all-bits k i (omega arith))) (ap (λ x. one true * boundOf d (e - a) + x) (sum-all k d (suc i) e ends (omega arith)))
+    let s = sum-all k d (suc i) e ends (omega arith) in
+    rw (eq-eqb (bit (2 ^ k - 1) i) 1 (all-bits k i (omega arith))) (omega arith)
 
 pub sum-every : (d : ℕ) (ends : List ℕ) → sumFrom (named (2 ^ length ends - 1)) d 0 0 ends ≡ sumFrom every d 0 0 ends
 sum-every d ends = sum-all (length ends) d 0 0 ends (omega arith)

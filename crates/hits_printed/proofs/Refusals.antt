@@ -30,7 +30,7 @@ use Rattle.hits_answer.proofs.Printing.{take-over, refused-not, prints-refusal,
 use Rattle.text_read.specs.Numbers.{allDigits, decimalValue, number}
 use Rattle.text_read.specs.Pieces.{split}
 
--- ---- every number of an input is a bin
+-- ---- every number of an input has 32 bits
 
 fits-nil : {w : ℕ} → Fits w []
 fits-nil = record { each = λ x m. absurd (List·Memᴰ·not-nil m) }

@@ -53,7 +53,7 @@ module _ (numbers ends : List ℕ) (p : Listed numbers ends) where
   pub lists-bound : total (λ r. boundIn (length (r .bins)) r) (runs numbers ends) ≤ 2 * mostNumbers * 21
   lists-bound = le-trans numbers-bound most-bound
 
-module _ (numbers ends : List ℕ) (t allowance : ℕ) (answers certificate : List ℕ) (bins : Fits pastBin numbers) where
+module _ (numbers ends : List ℕ) (t allowance : ℕ) (answers certificate : List ℕ) (fits : Fits pastBin numbers) where
   -- Only a question that passes the first checks is refused as 7.
   spent-passed : refusedBy (query numbers ends t allowance answers certificate .outcome) ≡ 7 → firstChecks numbers ends t ≡ passed
   spent-passed e =
@@ -65,7 +65,7 @@ module _ (numbers ends : List ℕ) (t allowance : ℕ) (answers certificate : Li
   unfolding query
   allowance-enough l e =
       let i = spent-passed e in
-      let g = fit numbers ends t bins i in
+      let g = fit numbers ends t fits i in
       never-spent g (λ r. boundIn (length (r .bins)) r) (run-probes g) allowance (length answers) (length certificate) l (rw (i, query) at e)
 
   -- And so is 2 × n × digits n, where n is the count of all numbers.

@@ -253,13 +253,13 @@ listed-numbers numbers ends p =
     let z = p .ends-last in
     omega arith
 
-module _ (numbers ends : List ℕ) (t allowance : ℕ) (answers certificate : List ℕ) (bins : Fits pastBin numbers)
+module _ (numbers ends : List ℕ) (t allowance : ℕ) (answers certificate : List ℕ) (fits : Fits pastBin numbers)
     (room : length numbers ≤ length answers) (bytes : 34 * length numbers + 19 ≤ length certificate) where
   walk-roomy : firstChecks numbers ends t ≡ passed
       → Roomy (record { probes = allowance; answers = length answers; bytes = length certificate }) (wholeWalk t (runs numbers ends))
   unfolding Roomy
   walk-roomy e =
-      let k = walk-small (fit numbers ends t bins e) (length numbers) (listed-numbers numbers ends (first-passed numbers ends t e .lists)) in
+      let k = walk-small (fit numbers ends t fits e) (length numbers) (listed-numbers numbers ends (first-passed numbers ends t e .lists)) in
       walk-room _ (wholeWalk t (runs numbers ends)) (le-trans (k .0) room) (le-trans (k .1) bytes)
 
   -- A question that passes the first checks is accepted or refused as 7: refusals 5 and 6 never occur.

@@ -23,7 +23,7 @@ use Rattle.model.proofs.Many.{unbegun, sum-suc, sum-same, sum-le, sum-m
 use Rattle.model.proofs.ManyChecks.{ManyPassed, many-passed}
 use Rattle.model.proofs.Truth.{Fit}
 
-module _ (numbers ends masks thresholds : List ℕ) (allowance : ℕ) (answers certificate results : List ℕ) (bins : Fits pastBin numbers)
+module _ (numbers ends masks thresholds : List ℕ) (allowance : ℕ) (answers certificate results : List ℕ) (fits : Fits pastBin numbers)
     (checked : manyChecks numbers ends masks thresholds results ≡ all-passed) where
   pub ws : List Ended
   ws = walksOf numbers ends masks thresholds allowance answers certificate
@@ -49,7 +49,7 @@ module _ (numbers ends masks thresholds : List ℕ) (allowance : ℕ) (answers c
 
   every-fit : (q : ℕ) → q < length masks → Fit (runsOf numbers ends masks q) (getD thresholds q 0)
   unfolding runsOf
-  every-fit q h = chosen-fit numbers ends (getD masks q 0) (getD thresholds q 0) bins (p .each q h)
+  every-fit q h = chosen-fit numbers ends (getD masks q 0) (getD thresholds q 0) fits (p .each q h)
 
   pub question-fit : (q : ℕ) → q < length ws → Fit (runsOf numbers ends masks q) (getD thresholds q 0)
   question-fit q h = let l = fewer c end in every-fit q (omega arith)

@@ -65,7 +65,7 @@ walks-roomy room rs n (m ∷ ms) (t ∷ ts) s l a b (suc q) h =
     (omega (arith, ap length g))))
     (λ j z. absurd (omega (arith, ap length (walks-stop room rs m t ms ts j z))))
 
-module _ (numbers ends masks thresholds : List ℕ) (allowance : ℕ) (answers certificate results : List ℕ) (bins : Fits pastBin numbers)
+module _ (numbers ends masks thresholds : List ℕ) (allowance : ℕ) (answers certificate results : List ℕ) (fits : Fits pastBin numbers)
     (checked : manyChecks numbers ends masks thresholds results ≡ all-passed) where
   -- An allowance of 44040192 for each question is always enough: refusal 7 never occurs.
   pub many-always-enough : length masks * (2 * mostNumbers * 21) ≤ allowance
@@ -73,8 +73,8 @@ module _ (numbers ends masks thresholds : List ℕ) (allowance : ℕ) (answers c
   unfolding runsOf
   many-always-enough l =
       let p = many-passed numbers ends masks thresholds results checked in
-      many-unspent numbers ends masks thresholds allowance answers certificate results bins checked (λ q r. boundIn (length (r .bins)) r)
-      (λ q h r m. run-probes (question-fit numbers ends masks thresholds allowance answers certificate results bins checked q h) r m)
+      many-unspent numbers ends masks thresholds allowance answers certificate results fits checked (λ q r. boundIn (length (r .bins)) r)
+      (λ q h r m. run-probes (question-fit numbers ends masks thresholds allowance answers certificate results fits checked q h) r m)
       (le-trans (sum-each (length masks) (2 * mostNumbers * 21) _
       (λ q h. le-trans (chosen-total-le (getD masks q 0) (λ r. boundIn (length (r .bins)) r) (runs numbers ends)) (lists-bound numbers ends (lists-passed numbers ends (p .lists))))) l)
 
@@ -92,7 +92,7 @@ module _ (numbers ends masks thresholds : List ℕ) (allowance : ℕ) (answers c
       ⊎-elim (λ e. absurd (omega (arith, g))) (λ e. inr (sym g ∙ e))
       (walks-roomy _ (runs numbers ends) (length numbers) masks thresholds
       (λ q h.
-      walk-small (chosen-fit numbers ends (getD masks q 0) (getD thresholds q 0) bins (p .each q h)) (length numbers)
+      walk-small (chosen-fit numbers ends (getD masks q 0) (getD thresholds q 0) fits (p .each q h)) (length numbers)
       (le-trans (chosen-total-le (getD masks q 0) (λ r. length (r .bins)) (runs numbers ends)) n))
       (p .rows) a b j (omega arith))
 

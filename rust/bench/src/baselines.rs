@@ -1,6 +1,7 @@
 //! Other ways to the answers. None checks its input, writes a certificate or
 //! counts probes.
 
+use reference::bins;
 use std::cmp::Reverse;
 use std::collections::binary_heap::{BinaryHeap, PeekMut};
 
@@ -14,11 +15,7 @@ fn runs_of<'a>(numbers: &'a [u32], ends: &[u32]) -> Vec<&'a [u32]> {
         *start = end as usize;
         Some(run)
     });
-    runs.map(|run| match &numbers[run] {
-        [0, bins @ ..] => bins,
-        bins => bins,
-    })
-    .collect()
+    runs.map(|run| bins(&numbers[run])).collect()
 }
 
 fn heads_of(runs: &[&[u32]]) -> BinaryHeap<Head> {

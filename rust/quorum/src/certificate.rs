@@ -65,26 +65,25 @@ pub enum Part {
     /// The named runs hold `value`. [`query()`](crate::query()) names all that
     /// hold it; a true certificate names at least the threshold of them.
     Answer {
-        /// The number that the runs hold.
+        /// The bin that the runs hold.
         value: u32,
         /// The runs that hold it.
         mask: u64,
     },
-    /// The named runs have no number from `first` to `last`, both included, and
-    /// the others are fewer than the threshold: so none of these numbers is an
-    /// answer.
+    /// The named runs hold no bin from `first` to `last`, both included, and the
+    /// others are fewer than the threshold: so none of these bins is an answer.
     Gap {
-        /// The first number of the gap.
+        /// The first bin of the gap.
         first: u32,
-        /// The last number of the gap.
+        /// The last bin of the gap.
         last: u32,
-        /// The runs that have no number in the gap.
+        /// The runs that hold no bin of the gap.
         mask: u64,
     },
 }
 
 impl Part {
-    /// Returns the first number that the part covers.
+    /// Returns the first bin that the part covers.
     ///
     /// ```
     /// # use quorum::Part;
@@ -98,7 +97,7 @@ impl Part {
         }
     }
 
-    /// Returns the last number that the part covers.
+    /// Returns the last bin that the part covers.
     ///
     /// ```
     /// # use quorum::Part;

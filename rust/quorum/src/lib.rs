@@ -14,10 +14,11 @@
 //! # Terms
 //!
 //! A *bin* is a number from [`FIRST_BIN`], which is 1, to [`LAST_BIN`], which is
-//! 4294967295. A *run* is a rising list of bins: each is above the one before it.
-//! A run may be empty. There are 1 to [`MAX_RUNS`] runs, counted from 0.
+//! 4294967295. A *run* is a rising list of numbers, each above the one before it:
+//! bins, and perhaps a 0 before them. A run may be empty. There are 1 to
+//! [`MAX_RUNS`] runs, counted from 0.
 //!
-//! A run may begin with a 0, the mark of a hit that could not be mapped. It is no
+//! A 0 at the start of a run is the mark of a hit that could not be mapped. It is no
 //! bin: it is passed over without a probe, is never an answer, and no certificate
 //! speaks of it. It is one of the `numbers`, and counts in ends, in places and
 //! towards [`MAX_NUMBERS`]. A second 0 does not rise and is refused.

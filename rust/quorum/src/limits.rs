@@ -37,7 +37,7 @@ pub const LAST_BIN: u32 = u32::MAX;
 /// with a larger one such as `u32::MAX`. Many questions in one call need at most
 /// this for each of them.
 ///
-/// A search moves its run on by at least one number. So in a run of n numbers
+/// A search moves its run on by at least one number. So in a run of n bins
 /// there are at most n searches, each of at most 2 × b probes, b being the
 /// binary digits of n: the sum of 2 × n × b over the runs is enough (proved). So
 /// is 2 × n × b for the n numbers of all runs together, which is no smaller; this
