@@ -5,7 +5,8 @@ ghost use Prim.Native.Nat.{_^_, _<_};
 ghost use lib.ListN.{length};
 ghost use Rattle.walk_state.specs.State.{Holds};
 ghost use Rattle.model.specs.Runs.{runs, maskBits};
-ghost use Rattle.walk_state.specs.Moves.{BeginReady, LentAt, PlacedAt, standing, firstBinAt, firstPlace};
+ghost use Rattle.walk_state.specs.Moves.{PlacedAt};
+ghost use Rattle.walk_begin.specs.Begin.{BeginReady, LentAt, standing, firstBinAt, firstPlace};
 
 // The place of the first bin of a run from `place` to `end`: a 0 at its start is passed over, which is no probe.
 fn first_bin(numbers: &[u32], place: u32, end: u32) -> u32

@@ -19,9 +19,9 @@ use Rattle.walk_rounds.specs.Ends.{Finishes}
 use Rattle.walk_whole.specs.Whole.{Begins, countsFrom, ComesTo}
 use Rattle.walk_rounds.specs.declared.End.{End}
 use Rattle.walk_write.specs.declared.State.{State}
-use Rattle.walk_state.proofs.Choosing.{standing-idle, standing-chosen, standing-rises}
+use Rattle.walk_begin.proofs.Standing.{standing-idle, standing-chosen, standing-rises}
 use Rattle.walk_state.proofs.Moving.{past-is}
-use Rattle.walk_state.specs.Moves.{BeginReady, standing}
+use Rattle.walk_begin.specs.Begin.{BeginReady, standing}
 use Rattle.walk_state.specs.State.{runsAt, chosenAt, Holds, Idle}
 
 -- the state before the first round

@@ -6,7 +6,7 @@ use mathlib.Core.Path.{_≡_, sym, ap}
 use native.Mathlib.Omega.{arith}
 use Rattle.model.specs.Runs.{firstBin}
 use Rattle.model.proofs.Unmapped.{first-is}
-use Rattle.walk_state.proofs.Choosing.{bin-here, bin-first, bin-after}
+use Rattle.walk_begin.proofs.Standing.{bin-here, bin-first, bin-after}
 use borrow.Author.Needs.{needs}
 use Rattle.walk_begin.proofs.first_bin.Statement.{statement}
 use Rattle.walk_begin.proofs.first_bin.Tie as tie

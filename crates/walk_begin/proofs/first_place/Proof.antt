@@ -1,6 +1,6 @@
 -- `first_place` is the place of a run's first bin, or the run's end where the mask does not choose it. Assumes nothing.
 use mathlib.Core.Path.{sym, _∙_}
-use Rattle.walk_state.proofs.Choosing.{first-chosen, first-other}
+use Rattle.walk_begin.proofs.Standing.{first-chosen, first-other}
 use borrow.Author.Needs.{needs}
 use Rattle.walk_begin.proofs.first_place.Statement.{statement}
 use Rattle.walk_begin.proofs.first_place.Tie as tie
