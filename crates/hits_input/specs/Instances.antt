@@ -1,18 +1,12 @@
 -- Inputs of the program hits with what they are parsed to, among them the listing of docs/SPECIFICATION.md, 'Instances'. Definitions only.
-use Prim.Native.Char.{code}
 use Prim.Native.Nat.{ℕ}
-use Prim.Native.String.{String, [] as noText, _∷_ as _andText_}
 use mathlib.Core.Bool.{Bool, true, false}
 use mathlib.Core.List.{List, [], _∷_, _++_, map}
 use mathlib.Core.Path.{_≡_}
 use lib.ListN.{replicate}
 use Rattle.model.specs.Refusals.{over}
+use Rattle.text_read.specs.Text.{bytes}
 use Rattle.hits_input.specs.Input.{Outcome, question, refused, Result, parse}
-
--- the bytes of a text of characters below 128
-unfoldable pub bytes : String → List ℕ
-bytes noText = []
-bytes (c andText s) = code c ∷ bytes s
 
 -- An input, whether a read failed after it, and the outcome with the numbers and the ends that it writes. The rows have room for 9 numbers and
 -- 4 runs, and hold zeros.

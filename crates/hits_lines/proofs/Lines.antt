@@ -11,12 +11,12 @@ use mathlib.Core.Path.{_≡_, refl, sym, ap, _∙_}
 use native.Mathlib.Numerals.{add-one}
 use native.Mathlib.Omega.{arith}
 use Rattle.model.proofs.Slices.{part-length}
-use Rattle.text_read.specs.Pieces.{split, until}
+use Rattle.text_read.specs.Pieces.{split, until, pieces}
 use Rattle.hits_input.specs.Input.{runOf, Lines, runsAre, faultAt, runBefore, linesFrom, row}
 use Rattle.hits_run.specs.Line.{countOf}
 use Rattle.hits_lines.specs.Lines.{scanned, linesAt}
 use Rattle.hits_lines.specs.declared.Scan.the-variants.{Runs, Fault}
-use Rattle.text_read.proofs.Pieces.{pieces, pieces-in, pieces-out, pieces-next}
+use Rattle.text_read.proofs.Pieces.{pieces-in, pieces-out, pieces-next}
 
 -- the lines from a place on, after i runs with n numbers
 abbrev pub linesHere : ℕ → ℕ → List ℕ → ℕ → ℕ → ℕ → Lines

@@ -16,12 +16,12 @@ use Rattle.model.proofs.Slices.{part-length}
 use Rattle.model.proofs.Tests.{both, eq-or-ne, or-false}
 use Rattle.hits_limits.specs.Limits.{mostBytes}
 use Rattle.hits_input.specs.Input.{before, numbersOf, runOf, Lines, runsAre, faultAt, runBefore, linesFrom, row, endsFrom}
-use Rattle.text_read.specs.Pieces.{split, until}
-use Rattle.text_read.specs.Numbers.{number}
+use Rattle.text_read.specs.Pieces.{split, until, pieces}
+use Rattle.text_read.specs.Numbers.{number, value}
 use Rattle.hits_run.specs.Line.{leading}
 use Rattle.hits_lines.specs.Lines.{runsIn, linesAt, Readable, Stored}
 use Rattle.hits_lines.proofs.Lines.{linesHere, onLine, lines-start, lines-end, line-inside, line-unended, line-ended}
-use Rattle.text_read.proofs.Pieces.{pieces, split-few}
+use Rattle.text_read.proofs.Pieces.{split-few}
 
 sets-append : (xs ys l : List ℕ) (at : ℕ) → sets l at (xs ++ ys) ≡ sets (sets l at xs) (at + length xs) ys
 sets-append [] ys l at = rw add-zero
@@ -46,7 +46,7 @@ leading-all (word ∷ words) e =
     (rw (p, leading) (ap (x ∷_) s ∙ sym r), ap length r ∙ ap suc t)
 
 pub run-leading : (line : List ℕ) {run : List ℕ} → runOf line ≡ some run → leading (split 32 line) ≡ run
-unfolding runOf split leading number
+unfolding runOf split leading number value
 run-leading [] {run} e = Option·some-injective [] run e
 run-leading (b ∷ line) e = leading-all (split 32 (b ∷ line)) e .0
 

@@ -2,13 +2,13 @@
 use Prim.Native.Nat.{ℕ, suc, _+_, _-_, _≤_, _<_}
 use borrow.Author.Tests.{lt-ltb, le-ltb}
 use lib.ListN.{length, take, drop}
-use lib.Seq.{sets, sets-eq, take-all}
+use lib.Seq.{take-all}
 use mathlib.Core.Bool.{Bool, true, false, or-true, or-false}
-use mathlib.Core.List.{List, [], _∷_, _++_}
+use mathlib.Core.List.{List, [], _∷_}
 use mathlib.Core.Logic.{_≢_}
 use mathlib.Core.Path.{_≡_, refl, sym, ap, _∙_, subst⁻¹}
 use native.Mathlib.Omega.{arith}
-use Rattle.model.specs.Refusals.{over}
+use Rattle.model.proofs.Buffers.{over-sets}
 use Rattle.hits_limits.specs.Limits.{mostBytes}
 use Rattle.hits_input.specs.Input.{heading, noHeading, headingOf, Lines, runsAre, faultAt, Limits, linesFrom, limited, row, endsFrom, question, refused, resultOf, parseLines, parse}
 use Rattle.text_read.specs.Pieces.{split, until}
@@ -43,10 +43,6 @@ scan-runs (runsAre rs) {i} {n} e =
 scan-runs (faultAt line) e = let z : _≡_ {A = ℕ} 0 1 = cc in absurd (omega arith)
 
 -- ---- the rows
-
-over-sets : (xs l : List ℕ) → length xs ≤ length l → sets l 0 xs ≡ over xs l
-unfolding over
-over-sets xs l h = let z : 0 + length xs ≡ length xs = omega arith in sets-eq xs l 0 (omega arith) ∙ ap (λ x. xs ++ drop x l) z
 
 pub ends-length : (start : ℕ) (rs : List (List ℕ)) → length (endsFrom start rs) ≡ length rs
 unfolding endsFrom

@@ -27,7 +27,7 @@ use Rattle.hits_parse.proofs.Parsing.{ends-length}
 use Rattle.hits_answer.specs.Hits.{parsed, hits}
 use Rattle.hits_printed.specs.Refusals.{Printable}
 use Rattle.hits_answer.proofs.Printing.{take-over, refused-not, prints-refusal, prints-question}
-use Rattle.text_read.specs.Numbers.{allDigits, decimalValue, number}
+use Rattle.text_read.specs.Numbers.{value, number}
 use Rattle.text_read.specs.Pieces.{split}
 
 -- ---- every number of an input has 32 bits
@@ -48,15 +48,18 @@ taken : (c : Bool) (n x : ℕ) → elim c [ true ↦ some n | false ↦ none ] �
 taken true n x e = (refl, cc)
 taken false n x e = absurd (let z : _≡_ {A = ℕ} 0 1 = cc in omega arith)
 
-number-bin : (word : List ℕ) (x : ℕ) → number word ≡ some x → x < pastBin
-unfolding number lastBin pastBin
-number-bin [] x e = absurd (let z : _≡_ {A = ℕ} 0 1 = cc in omega arith)
-number-bin (b ∷ word) x e =
-    let n = decimalValue 0 (b ∷ word) in
-    let t = taken (allDigits (b ∷ word) && leb n lastBin) n x e in
-    let k = leb-true n lastBin (and-true (allDigits (b ∷ word)) (leb n lastBin) (t .0) .1) in
+bin-of : (o : Option ℕ) (x : ℕ) → elim o [ none ↦ none | some n ↦ elim (leb n lastBin) [ true ↦ some n | false ↦ none ] ] ≡ some x → x < pastBin
+unfolding lastBin pastBin
+bin-of none x e = absurd (let z : _≡_ {A = ℕ} 0 1 = cc in omega arith)
+bin-of (some n) x e =
+    let t = taken (leb n lastBin) n x e in
+    let k = leb-true n lastBin (t .0) in
     let i : n ≡ x = t .1 in
     omega arith
+
+number-bin : (word : List ℕ) (x : ℕ) → number word ≡ some x → x < pastBin
+unfolding number
+number-bin word x e = bin-of (value word) x e
 
 before-bins : (o : Option ℕ) (os : Option (List ℕ)) (xs : List ℕ) → ((x : ℕ) → o ≡ some x → x < pastBin)
     → ((ys : List ℕ) → os ≡ some ys → Fits pastBin ys) → text.before o os ≡ some xs → Fits pastBin xs

@@ -1,7 +1,7 @@
 -- docs/SPECIFICATION.md, 'The program hits': the listing's input with what it prints, one whose search halves, and a refused question. Definitions only.
 use Prim.Native.Nat.{ℕ}
 use mathlib.Core.List.{List}
-use Rattle.hits_input.specs.Instances.{bytes}
+use Rattle.text_read.specs.Text.{bytes}
 
 unfoldable pub listingInput : List ℕ
 listingInput = bytes "2 3\n2 5 9\n5 7 9 12\n1 9\n"

@@ -8,11 +8,11 @@ use mathlib.Core.Option.{Option, none, some}
 use mathlib.Core.Path.{_≡_, refl, sym, ap, _∙_}
 use native.Mathlib.Numerals.{add-one}
 use native.Mathlib.Omega.{arith}
-use Rattle.text_read.specs.Pieces.{split, until}
+use Rattle.text_read.specs.Pieces.{split, until, pieces}
 use Rattle.text_read.specs.Numbers.{number}
 use Rattle.hits_input.specs.Input.{before, numbersOf, runOf}
 use Rattle.hits_run.specs.Line.{countOf, leading}
-use Rattle.text_read.proofs.Pieces.{pieces, pieces-out, pieces-start, pieces-next}
+use Rattle.text_read.proofs.Pieces.{pieces-out, pieces-start, pieces-next}
 
 -- the words from a place on
 abbrev pub wordsAt : List ℕ → ℕ → List (List ℕ)

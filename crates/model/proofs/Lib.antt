@@ -1,5 +1,6 @@
 pub mod Allowance
 pub mod Bounds
+pub mod Buffers
 pub mod Checking
 pub mod Chosen
 pub mod Count

@@ -4,6 +4,8 @@ ghost use Rattle.model.specs.Many.{queryMany};
 ghost use Rattle.model.specs.Refusals.{query, check, checkChosen};
 ghost use Rattle.bound.specs.Bound.{probeBound, probeBoundChosen};
 ghost use Rattle.checker.specs.Verdicts.{verdictIs};
+ghost use Rattle.lcov_form.specs.Reading.{lcovRun};
+ghost use Rattle.quorum_lcov.specs.Rows.{readingRow};
 ghost use Rattle.quorum_many.specs.Rows.{manyRow};
 ghost use Rattle.quorum_rows.specs.Outcomes.{outcomeRow};
 ghost use Rattle.quorum.specs.Results.{verdictRow, boundRow, PartRow};
@@ -150,4 +152,18 @@ pub extern "C" fn quorum_probe_bound_chosen(
 {
     let bound = bound::probe_bound_chosen(ends, mask, parts);
     put_bound(bound, result);
+}
+
+#[no_mangle]
+pub extern "C" fn quorum_lcov_run(
+    file: &[u8],
+    section: usize,
+    run: &mut [u32],
+    result: &mut [u64; 3],
+)
+    ensures row { λ r. ⌜ now (result .exit) ≡ readingRow (lcovRun (now (file .entry)) section (now (run .entry)) .check) (lcovRun (now (file .entry)) section (now (run .entry)) .count) ⌝ }
+    ensures written { λ r. ⌜ now (run .exit) ≡ lcovRun (now (file .entry)) section (now (run .entry)) .row ⌝ }
+{
+    let outcome = lcov_run::lcov_run(file, section, run);
+    quorum_lcov::put_reading(outcome, result);
 }

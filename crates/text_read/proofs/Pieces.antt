@@ -1,7 +1,7 @@
 -- Pieces between separators, found one after another from a place on. Assumes nothing.
 use Prim.Native.Nat.{ℕ, suc, _+_, _-_, _≤_, _<_}
 use borrow.Author.Tests.{eq-eqb, ne-eqb, le-leb, lt-leb}
-use lib.Dec.{eqb, leb}
+use lib.Dec.{eqb}
 use lib.ListN.{length, getD, take, drop, length-drop, drop-of-length-le}
 use lib.Seq.{drop-cons, drop-drop, take-all}
 use mathlib.Core.Bool.{true, false}
@@ -11,7 +11,7 @@ use mathlib.Core.Path.{_≡_, refl, sym, ap, _∙_}
 use native.Mathlib.Numerals.{add-one}
 use native.Mathlib.Omega.{arith}
 use Rattle.model.proofs.Tests.{both, lt-or-le}
-use Rattle.text_read.specs.Pieces.{onFirst, split, until}
+use Rattle.text_read.specs.Pieces.{onFirst, split, until, pieces}
 
 module _ (s : ℕ) (l : List ℕ) (i : ℕ) where
   pub until-at : i < length l → getD l i 0 ≡ s → until s (drop i l) ≡ 0
@@ -34,10 +34,6 @@ until-le s (b ∷ l) =
     (λ (e : eqb b s ≡ true). rw (e, until) (omega arith))
     (λ (e : eqb b s ≡ false). rw (e, until) (let h = until-le s l in omega arith))
     (both (eqb b s))
-
--- the pieces from a place on, none past the end
-unfoldable pub pieces : ℕ → List ℕ → ℕ → List (List ℕ)
-pieces s l at = elim (leb at (length l)) [ true ↦ split s (drop at l) | false ↦ [] ]
 
 pub pieces-in : (s : ℕ) (l : List ℕ) (at : ℕ) → at ≤ length l → pieces s l at ≡ split s (drop at l)
 unfolding pieces

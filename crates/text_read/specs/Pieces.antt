@@ -2,7 +2,8 @@
 use Prim.Native.Nat.{ℕ, suc}
 use mathlib.Core.Bool.{true, false}
 use mathlib.Core.List.{List, [], _∷_}
-use lib.Dec.{eqb}
+use lib.Dec.{eqb, leb}
+use lib.ListN.{length, drop}
 
 -- the length of the first piece
 unfoldable pub until : ℕ → List ℕ → ℕ
@@ -18,3 +19,7 @@ onFirst b (piece ∷ pieces) = (b ∷ piece) ∷ pieces
 unfoldable pub split : ℕ → List ℕ → List (List ℕ)
 split separator [] = [] ∷ []
 split separator (b ∷ bytes) = elim (eqb b separator) [ true ↦ [] ∷ split separator bytes | false ↦ onFirst b (split separator bytes) ]
+
+-- the pieces from a place on, none past the end
+unfoldable pub pieces : ℕ → List ℕ → ℕ → List (List ℕ)
+pieces separator bytes at = elim (leb at (length bytes)) [ true ↦ split separator (drop at bytes) | false ↦ [] ]

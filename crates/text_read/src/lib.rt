@@ -1,10 +1,11 @@
 // Text as bytes, read: the pieces between separators, and a piece as a decimal number.
 ghost use mathlib.Core.Path.{_≡_};
 ghost use Rattle.text_read.specs.Pieces.{until};
-ghost use Rattle.text_read.specs.Numbers.{number, wordIs};
+ghost use Rattle.text_read.specs.Numbers.{value, wordOf};
 
 pub enum Word {
     Number(u32),
+    TooLarge,
     NoNumber,
 }
 
@@ -22,9 +23,9 @@ pub fn first_of(bytes: &[u8], separator: u8) -> usize
     i
 }
 
-// A word as a number. The value is tested after each digit, so it never exceeds 42949672959.
+// A word as a number. A value above 4294967295 is cut down after each digit, so it never exceeds 42949672969.
 pub fn read_word(word: &[u8]) -> Word
-    ensures { λ r. ⌜ wordIs r ≡ number (now (word .entry)) ⌝ }
+    ensures { λ r. ⌜ r ≡ wordOf (value (now (word .entry))) ⌝ }
 {
     if word.len() == 0 {
         return Word::NoNumber;
@@ -40,10 +41,13 @@ pub fn read_word(word: &[u8]) -> Word
             return Word::NoNumber;
         }
         value = value * 10 + arith::u64_of_u8(b - 48);
-        if limits::PAST_BIN <= value {
-            return Word::NoNumber;
+        if limits::PAST_BIN < value {
+            value = limits::PAST_BIN;
         }
         i += 1;
+    }
+    if limits::PAST_BIN <= value {
+        return Word::TooLarge;
     }
     Word::Number(value as u32)
 }

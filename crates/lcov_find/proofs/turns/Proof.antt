@@ -1,0 +1,23 @@
+-- `turns` looks for an end in a section and for an opening elsewhere. Assumes nothing.
+use borrow.Author.Needs.{needs}
+use mathlib.Core.Path.{_≡_, sym, ap, _∙_}
+use Rattle.lcov_find.specs.Places.{turns}
+use Rattle.lcov_find.proofs.turns.Statement.{statement}
+use Rattle.lcov_find.proofs.turns.Tie as tie
+
+closes-requires : tie.Need-closes-requires
+closes-requires c κs = search needs
+
+returns : tie.Need-returns
+unfolding turns
+returns c = c .closes .ensures ∙ ap (λ x. turns x (c .before .before .before .args .line .now)) (sym (c .before .if1 .taken))
+
+opens-requires : tie.Need-opens-requires
+opens-requires c κs = search needs
+
+returns-2 : tie.Need-returns-2
+unfolding turns
+returns-2 c = c .opens .ensures ∙ ap (λ x. turns x (c .before .before .before .args .line .now)) (sym (c .before .if1 .left))
+
+pub turns-spec : {M : Type 1} → statement M
+turns-spec = tie.close (tie.spec closes-requires returns opens-requires returns-2)

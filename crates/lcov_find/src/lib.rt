@@ -1,0 +1,39 @@
+// A section of an LCOV tracefile, found by its index.
+ghost use mathlib.Core.Path.{_≡_};
+ghost use Rattle.lcov_form.specs.Reading.{sectionOf};
+ghost use Rattle.lcov_find.specs.Places.{sectionAt, turns};
+
+// Whether a line closes the section that is open or, if none is, opens one.
+fn turns(line: &[u8], inside: bool) -> bool
+    ensures { λ r. ⌜ r ≡ turns inside (now (line .entry)) ⌝ }
+{
+    if inside {
+        return lcov_line::closes(line);
+    }
+    lcov_line::opens(line)
+}
+
+// Where the lines of the section with an index begin: after the line that opens it, or past the end of a file that has no such section. One pass.
+pub fn find_section(file: &[u8], index: usize) -> usize
+    ensures { λ r. ⌜ sectionAt (now (file .entry)) r ≡ sectionOf (now (file .entry)) index ⌝ }
+{
+    let mut at: usize = 0;
+    let mut left = index;
+    let mut inside = false;
+    while at <= file.len() {
+        let end = at + text_read::first_of(&file[at..], 10);
+        if turns(&file[at..end], inside) {
+            if inside {
+                inside = false;
+            } else {
+                if left == 0 {
+                    return end + 1;
+                }
+                left -= 1;
+                inside = true;
+            }
+        }
+        at = end + 1;
+    }
+    at
+}
