@@ -69,19 +69,28 @@ fn append(
 
 /// The number of a record, and whether its count is above 0.
 fn read_record(values: &[u8]) -> Option<(u32, bool)> {
-    let is_digit = |byte: &u8| byte.is_ascii_digit();
-    let end = values.iter().position(|byte| !is_digit(byte))?;
-    let (number, rest) = values.split_at(end);
-    let number = number.iter().try_fold(0_u32, |number, byte| {
-        let digit = u32::from(byte - b'0');
-        number.checked_mul(10)?.checked_add(digit)
-    })?;
-    let rest = rest.strip_prefix(b",")?;
-    let end = rest.iter().position(|byte| !is_digit(byte));
-    let count = &rest[..end.unwrap_or(rest.len())];
-    let is_ended = end.is_none_or(|end| rest[end] == b',');
-    let is_record = number > 0 && !count.is_empty() && is_ended;
-    is_record.then(|| (number, count.iter().any(|&digit| digit != b'0')))
+    let mut bytes = values.iter();
+    let mut number = 0_u64;
+    loop {
+        match bytes.next()? {
+            digit @ b'0'..=b'9' => number = 10 * number + u64::from(digit - b'0'),
+            b',' if number > 0 => break,
+            _ => return None,
+        }
+        if number > u64::from(u32::MAX) {
+            return None;
+        }
+    }
+    let (mut has_digits, mut is_hit) = (false, false);
+    for byte in bytes {
+        match byte {
+            b'0'..=b'9' => is_hit |= *byte != b'0',
+            b',' if has_digits => break,
+            _ => return None,
+        }
+        has_digits = true;
+    }
+    has_digits.then_some((number as u32, is_hit))
 }
 
 fn stopped(number: u64, place: usize, written: usize) -> StoppedRun {
