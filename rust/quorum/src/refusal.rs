@@ -144,8 +144,7 @@ impl fmt::Display for Refusal {
             }
             Refusal::NOT_RISING => "a number is not above the one before it in its run",
             Refusal::ANSWERS_FULL => {
-                "one more answer is due and the answer buffer is full, or one more number of a \
-                 section and its row is"
+                "one more answer, or number of a section, is due and the buffer for it is full"
             }
             Refusal::CERTIFICATE_FULL => {
                 "one more part is due and does not fit the rest of the certificate buffer"
