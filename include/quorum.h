@@ -43,6 +43,9 @@
  * A question may be about some of the runs, which a mask chooses. Its
  * certificate names no other run, and the number of chosen runs takes the place
  * of `ends_len`. Run i is bit i of every mask, whichever runs are chosen.
+ *
+ * The lines that a test reached are a run too: quorum_lcov_run reads one section
+ * of an LCOV tracefile.
  */
 #ifndef QUORUM_H
 #define QUORUM_H
@@ -56,7 +59,7 @@ extern "C" {
 
 /** The version. While the major number is 0, a higher minor one may change calls. */
 #define QUORUM_VERSION_MAJOR 0
-#define QUORUM_VERSION_MINOR 4
+#define QUORUM_VERSION_MINOR 5
 #define QUORUM_VERSION_PATCH 0
 
 /** The limits: runs, numbers of all runs together, the first and the last bin. */
@@ -101,6 +104,9 @@ extern "C" {
  * quorum_check_chosen has 1, 13, 2, 3 and 4 first, in this order, then 8 to 11;
  * quorum_probe_bound_chosen has 1, 13 and 3. quorum_query_many has 1, 3, 4 and 14
  * first, then 13 and 2 for each question before the next, and only then 5 to 7.
+ *
+ * quorum_lcov_run has 15, 4 and 5 in this order for each record, and 16 at the end
+ * of the file.
  */
 enum {
     QUORUM_ACCEPTED = 0,
@@ -116,12 +122,16 @@ enum {
      * numbers_len, or is above 1,048,576; place: ends_len.
      */
     QUORUM_BAD_ENDS = 3,
-    /** A number is not above the one before it in its run. Place: its index. */
+    /**
+     * A number is not above the one before it in its run. Place: its index in the
+     * numbers; from quorum_lcov_run its index in the run.
+     */
     QUORUM_NOT_RISING = 4,
     /**
      * An answer is due and the answer buffer is full. The place of 5 to 7 is the
      * number of parts written, from quorum_query_many those of the question that
-     * was stopped.
+     * was stopped. From quorum_lcov_run: a number is due and the row is full;
+     * place: the count written.
      */
     QUORUM_ANSWERS_FULL = 5,
     /** A part is due and does not fit the certificate buffer. */
@@ -152,7 +162,18 @@ enum {
      * There are not as many thresholds as masks, or fewer than two result places
      * for each question. Place: masks_len.
      */
-    QUORUM_BAD_ROWS = 14
+    QUORUM_BAD_ROWS = 14,
+    /**
+     * A line of the section begins with DA: and goes on with anything but digits
+     * for a number from 1 to 4294967295, a comma, digits, and then a comma or its
+     * end. Place: the offset of the line's first byte.
+     */
+    QUORUM_BAD_RECORD = 15,
+    /**
+     * The tracefile has no such section, or the section has no end_of_record.
+     * Place: file_len.
+     */
+    QUORUM_NO_SECTION = 16
 };
 
 /**
@@ -187,7 +208,10 @@ enum {
     QUORUM_BETWEEN_ROW = 2,
 
     QUORUM_BOUND_PROBES = 2,
-    QUORUM_BOUND_ROW = 3
+    QUORUM_BOUND_ROW = 3,
+
+    QUORUM_LCOV_WRITTEN = 2,
+    QUORUM_LCOV_ROW = 3
 };
 
 /**
@@ -401,6 +425,50 @@ void quorum_probe_bound(const uint32_t *ends, size_t ends_len, uint32_t parts,
 void quorum_probe_bound_chosen(const uint32_t *ends, size_t ends_len,
                                uint64_t mask, uint32_t parts,
                                uint64_t result[QUORUM_BOUND_ROW]);
+
+/**
+ * Read one section of an LCOV tracefile as one run: write the line number of each
+ * DA: record whose count is above 0 to `run`, in the order met.
+ *
+ * A section opens at a line that begins with SF: while none is open, and closes at
+ * the next line that is exactly end_of_record; `section` is its index from 0.
+ * Other sections, other records and a third value on a DA: line are passed over,
+ * and the file is not read past the section's end. Lines end with byte 10, which
+ * the last may lack. Byte 13 is a byte like any other, so files whose lines end
+ * with both have no section that closes. Leading zeros are allowed, and a count
+ * may have any number of digits.
+ *
+ * `result` receives refusal and place, and the count of numbers written, refused
+ * or not. What was written stands; later places of `run` are unchanged, also of an
+ * accepted call. For each record 15 is tested first, whatever its count; a count
+ * of 0 is then left out, and only after that are 4 and 5 tested.
+ *
+ * A row of file_len / 7 numbers is always enough, and 5 then never occurs: a record
+ * that gives a number has at least the seven bytes of DA:1,1 and its line end, and
+ * the SF: line before it makes up for a line end that the last one lacks.
+ *
+ * The numbers written rise and are at least 1, after a refusal too, so a question
+ * never refuses them as 4. There may be more of them than QUORUM_MAX_NUMBERS, the
+ * most that a question takes for all its runs together; it refuses them as 3.
+ *
+ * Cost: one pass over the file up to the section's end; nothing is copied but the
+ * numbers.
+ *
+ * Example: lines 1 and 3 of a.c were reached; there is no second section.
+ *
+ *     const char file[] =
+ *         "SF:a.c\nDA:1,1\nDA:2,0\nDA:3,5,abc\nend_of_record\n";
+ *     const size_t file_len = sizeof file - 1;
+ *     uint32_t run[(sizeof file - 1) / 7];
+ *     uint64_t reading[QUORUM_LCOV_ROW];
+ *     quorum_lcov_run((const uint8_t *)file, file_len, 0, run, 6, reading);
+ *     // reading: 0, 0, 2; run: 1, 3
+ *     quorum_lcov_run((const uint8_t *)file, file_len, 1, run, 6, reading);
+ *     // reading: 16, 46, 0
+ */
+void quorum_lcov_run(const uint8_t *file, size_t file_len, size_t section,
+                     uint32_t *run, size_t run_len,
+                     uint64_t result[QUORUM_LCOV_ROW]);
 
 #ifdef __cplusplus
 }

@@ -1,7 +1,8 @@
 //! The cases of the tables: a shape of input, a number of runs and a
-//! threshold.
+//! threshold; or a tracefile.
 
 use crate::inputs::{self, Input};
+use crate::tracefiles;
 use std::fmt;
 
 /// One line of a table. [`Display`](fmt::Display) gives its name, as
@@ -98,21 +99,22 @@ pub struct Selected {
     pub checked: Vec<Case>,
     /// Those of the third table.
     pub asked_together: Vec<Case>,
+    /// Those of the fourth table.
+    pub read: Vec<tracefiles::Case>,
 }
 
 /// Returns the cases whose names have the substring. If there are none, an
-/// error that lists all names. Each case of the other tables is one of the first
-/// too.
+/// error that lists all names. Each case of the second and the third table is one
+/// of the first too.
 pub fn select(substring: &str) -> Result<Selected, String> {
-    let has = |case: &Case| case.to_string().contains(substring);
-    let select = |cases: Vec<Case>| cases.into_iter().filter(has).collect();
     let selected = Selected {
-        queried: select(queried()),
-        checked: select(checked()),
-        asked_together: select(asked_together()),
+        queried: having(substring, queried()),
+        checked: having(substring, checked()),
+        asked_together: having(substring, asked_together()),
+        read: having(substring, tracefiles::cases()),
     };
-    if selected.queried.is_empty() {
-        let names: Vec<String> = queried().iter().map(Case::to_string).collect();
+    if selected.queried.is_empty() && selected.read.is_empty() {
+        let names = [names(&queried()), names(&tracefiles::cases())].concat();
         return Err(format!(
             "no case has `{substring}` in its name; there are\n{}",
             names.join("\n")
@@ -121,13 +123,21 @@ pub fn select(substring: &str) -> Result<Selected, String> {
     Ok(selected)
 }
 
+/// The cases whose names have the substring.
+fn having<C: fmt::Display>(substring: &str, mut cases: Vec<C>) -> Vec<C> {
+    cases.retain(|case| case.to_string().contains(substring));
+    cases
+}
+
+fn names<C: fmt::Display>(cases: &[C]) -> Vec<String> {
+    cases.iter().map(C::to_string).collect()
+}
+
 #[cfg(test)]
 mod tests {
     use super::*;
 
-    fn names(cases: &[Case]) -> Vec<String> {
-        cases.iter().map(Case::to_string).collect()
-    }
+    const TRACEFILES: [&str; 2] = ["tracefile, last section", "tracefile, one section"];
 
     #[test]
     fn all_cases() {
@@ -138,6 +148,7 @@ mod tests {
             names(&all.queried)[..3],
             ["dense k=2 t=1", "dense k=2 t=2", "dense k=8 t=1"]
         );
+        assert_eq!(names(&all.read), TRACEFILES);
     }
 
     #[test]
@@ -164,9 +175,13 @@ mod tests {
             ["dense k=64 t=1", "dense k=64 t=2", "dense k=64 t=32"]
         );
         assert_eq!(names(&some.asked_together), ["dense k=64 t=32"]);
+        assert!(some.read.is_empty());
         let one = select("skewed k=2 t=2").unwrap();
         assert_eq!(names(&one.queried), ["skewed k=2 t=2"]);
         assert!(one.checked.is_empty() && one.asked_together.is_empty());
+        let read = select("tracefile, last").unwrap();
+        assert_eq!(names(&read.read), TRACEFILES[..1]);
+        assert!(read.queried.is_empty() && read.checked.is_empty());
     }
 
     #[test]
@@ -177,7 +192,8 @@ mod tests {
             lines.next(),
             Some("no case has `denser` in its name; there are")
         );
-        assert!(lines.eq(names(&queried())));
+        let all = [names(&queried()), TRACEFILES.map(str::to_string).to_vec()];
+        assert!(lines.eq(all.concat()));
     }
 
     #[test]

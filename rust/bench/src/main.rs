@@ -1,7 +1,7 @@
 //! Times the library on 1,048,576 numbers beside the reference walk, heap
 //! merges with counting and a sort with counting, a check of the walk's own
 //! certificate beside the query, and many questions in one call beside as many
-//! calls.
+//! calls; and on tracefiles of 100,000,000 bytes beside the same reader in Rust.
 //!
 //!     cargo run --release -p bench -- [--only SUBSTRING] [--reps N] [--help]
 //!
@@ -13,16 +13,20 @@ mod baselines;
 mod cases;
 mod checking;
 mod inputs;
+mod lcov;
 mod many;
 mod options;
 mod ordered;
 mod querying;
+mod reading;
+mod tracefiles;
 
 use inputs::NUMBERS;
 use options::{Request, HELP, USAGE};
 use std::hint::black_box;
 use std::process::ExitCode;
 use std::time::{Duration, Instant};
+use tracefiles::BYTES;
 
 fn main() -> ExitCode {
     let words = std::env::args_os().skip(1);
@@ -45,23 +49,44 @@ fn main() -> ExitCode {
         }
     };
     let repetitions = options.repetitions;
-    eprintln!("{NUMBERS} numbers, medians of {repetitions} repetitions");
-    querying::report(&selected.queried, repetitions);
-    if !selected.checked.is_empty() {
-        println!();
-        checking::report(&selected.checked, repetitions);
-    }
-    if !selected.asked_together.is_empty() {
-        println!();
-        many::report(&selected.asked_together, repetitions);
-    }
+    eprintln!(
+        "{NUMBERS} numbers, tracefiles of {BYTES} bytes, medians of {repetitions} repetitions"
+    );
+    let mut tables = Tables::default();
+    tables.print(&selected.queried, repetitions, querying::report);
+    tables.print(&selected.checked, repetitions, checking::report);
+    tables.print(&selected.asked_together, repetitions, many::report);
+    tables.print(&selected.read, repetitions, reading::report);
     ExitCode::SUCCESS
 }
 
-/// Times some work on numbers that were just read, so that none of the ways has
-/// to fetch them for the others.
-fn timed<T>(numbers: &[u32], work: impl FnOnce() -> T) -> (Duration, T) {
-    black_box(numbers.iter().fold(0, |sum: u32, &x| sum.wrapping_add(x)));
+/// The tables that have cases, with an empty line between.
+#[derive(Default)]
+struct Tables {
+    printed: bool,
+}
+
+impl Tables {
+    fn print<C>(&mut self, cases: &[C], repetitions: usize, report: fn(&[C], usize)) {
+        if cases.is_empty() {
+            return;
+        }
+        if self.printed {
+            println!();
+        }
+        report(cases, repetitions);
+        self.printed = true;
+    }
+}
+
+/// Times some work on an input that was just read, so that none of the ways has
+/// to fetch it for the others.
+fn timed<N: Copy + Into<u32>, T>(input: &[N], work: impl FnOnce() -> T) -> (Duration, T) {
+    black_box(
+        input
+            .iter()
+            .fold(0, |sum: u32, &x| sum.wrapping_add(x.into())),
+    );
     let start = Instant::now();
     let result = black_box(work());
     (start.elapsed(), result)

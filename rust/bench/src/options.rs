@@ -6,14 +6,16 @@ pub const USAGE: &str = "usage: bench [--only SUBSTRING] [--reps N] [--help]";
 /// What `--help` prints after the usage.
 pub const HELP: &str = "
 Times the library on 1,048,576 numbers beside other ways to the answers, checks
-of certificates beside queries, and many questions in one call beside as many
-calls. Standard output has the three tables.
+of certificates beside queries, many questions in one call beside as many calls,
+and the reading of tracefiles of 100,000,000 bytes. Standard output has the four
+tables.
 
-  --only SUBSTRING  measure the cases whose name, as `dense k=8 t=2`, has this
+  --only SUBSTRING  measure the cases whose name, as `dense k=8 t=2` or
+                    `tracefile, one section`, has this
   --reps N          repetitions, 1 or more, of which the median counts; 9 if not given
   --help            print this
 
-Columns of all tables:
+Columns of the first three tables:
   case            shape of the input
   k               number of runs
   t               threshold
@@ -41,6 +43,15 @@ Columns of the third table, questions about all runs with the same threshold:
   calls ms        time of one call for each question, in milliseconds
   one/calls       time of the one call divided by that of the calls
   one/same        the same for the library's own way in Rust, all questions together
+
+Columns of the fourth table, the last section of a tracefile read as a run:
+  case            which tracefile: one of many sections, or of one with all its records
+  sections        number of sections
+  numbers         numbers of the run
+  lib ms          time of the library, in milliseconds
+  same ms         time of the same reader in Rust, in milliseconds
+  lib/same        time of the library divided by that of the reader in Rust
+  lib MB/s        millions of bytes that the library reads in a second
 ";
 
 /// What is measured, and how often.

@@ -12,11 +12,14 @@ pub mod certificates;
 pub mod cuts;
 pub mod lent;
 pub mod many;
+pub mod met;
 pub mod printed;
 pub mod program;
 pub mod question;
+pub mod readings;
 pub mod shapes;
 pub mod texts;
+pub mod tracefiles;
 pub mod verdicts;
 
 use std::fmt;

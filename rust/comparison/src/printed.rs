@@ -1,14 +1,14 @@
 //! What the program `hits` prints, compared with the reference.
 
+use crate::met::Met;
 use crate::program::{self, print_of};
-use std::collections::{BTreeMap, BTreeSet};
 use std::path::PathBuf;
 
 /// Runs the program and counts its refusals; 0 stands for none.
 pub struct Comparer {
     program: PathBuf,
-    /// The places of each; where there is none, the halving probes.
-    places: BTreeMap<u64, Vec<u64>>,
+    /// With the places of each; where there is none, the halving probes.
+    seen: Met<u64>,
 }
 
 impl Comparer {
@@ -20,7 +20,7 @@ impl Comparer {
     pub fn of_hits() -> Comparer {
         Comparer {
             program: program::hits(),
-            places: BTreeMap::new(),
+            seen: Met::default(),
         }
     }
 
@@ -70,7 +70,7 @@ impl Comparer {
             Some("refuse") => (number(words.next()), number(words.next())),
             _ => (0, number(words.last())),
         };
-        self.places.entry(refusal).or_default().push(place);
+        self.seen.count(refusal, place);
     }
 
     /// Each of these refusals was met so often, and at several places.
@@ -79,19 +79,7 @@ impl Comparer {
     ///
     /// If one was not.
     pub fn met(&self, refusals: &[(u64, usize, usize)]) {
-        let counts: BTreeMap<u64, (usize, usize)> = self
-            .places
-            .iter()
-            .map(|(&refusal, places)| {
-                let different: BTreeSet<_> = places.iter().collect();
-                (refusal, (places.len(), different.len()))
-            })
-            .collect();
-        println!("by refusal, times and different places: {counts:?}");
-        for (refusal, times, places) in refusals {
-            let found = counts.get(refusal).unwrap_or(&(0, 0));
-            assert!(found.0 >= *times && found.1 >= *places, "{counts:?}");
-        }
+        self.seen.met("by refusal", refusals);
     }
 }
 

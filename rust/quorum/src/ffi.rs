@@ -74,6 +74,14 @@ extern "C" {
         parts: u32,
         result: *mut [u64; 3],
     );
+    fn quorum_lcov_run(
+        file: *const u8,
+        file_len: usize,
+        section: usize,
+        run: *mut u32,
+        run_len: usize,
+        result: *mut [u64; 3],
+    );
 }
 
 /// Returns refusal, place, answers, parts, bytes, doubling probes and halving
@@ -256,5 +264,28 @@ pub fn probe_bound_chosen(ends: &[u32], mask: u64, parts: u32) -> [u64; 3] {
     let mut result = [u64::MAX; 3];
     // SAFETY: as in `check`.
     unsafe { quorum_probe_bound_chosen(ends.as_ptr(), ends.len(), mask, parts, &mut result) };
+    result
+}
+
+/// Returns refusal, place and the count of numbers written.
+///
+/// ```
+/// let mut run = [0; 2];
+/// let row = quorum::ffi::lcov_run(b"SF:a.c\nDA:4,1\nDA:7,0\nend_of_record\n", 0, &mut run);
+/// assert_eq!((row, run), ([0, 0, 1], [4, 0]));
+/// ```
+pub fn lcov_run(file: &[u8], section: usize, run: &mut [u32]) -> [u64; 3] {
+    let mut result = [u64::MAX; 3];
+    // SAFETY: as in `query`.
+    unsafe {
+        quorum_lcov_run(
+            file.as_ptr(),
+            file.len(),
+            section,
+            run.as_mut_ptr(),
+            run.len(),
+            &mut result,
+        );
+    }
     result
 }

@@ -10,6 +10,7 @@
 //! * [`between()`] finds the bins of one list between two numbers.
 //! * [`probe_bound()`] gives an allowance of probes that is enough,
 //!   [`probe_bound_chosen()`] one for some of the runs.
+//! * [`lcov_run()`] reads one section of an LCOV tracefile as one run.
 //!
 //! # Terms
 //!
@@ -99,6 +100,7 @@ mod chosen;
 #[allow(unsafe_code)]
 pub mod ffi;
 mod finished;
+mod lcov;
 mod limits;
 mod many;
 mod refusal;
@@ -106,6 +108,7 @@ mod refusal;
 pub use certificate::{parts, Part, Parts, Runs, ANSWER_SIZE, GAP_SIZE, TAG_ANSWER, TAG_GAP};
 pub use chosen::{check_chosen, probe_bound_chosen};
 pub use finished::{finished, Answered, Finished};
+pub use lcov::{lcov_run, StoppedRun};
 pub use limits::{
     enough_answers, enough_bytes, enough_results, ENOUGH_PROBES, FIRST_BIN, LAST_BIN, MAX_NUMBERS,
     MAX_RUNS,

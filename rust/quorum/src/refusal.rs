@@ -41,6 +41,9 @@ pub struct Refusal {
 /// and 2 for each question before the next; the parts that its place of 5 to 7
 /// counts are those of the question that was stopped.
 ///
+/// [`lcov_run()`](crate::lcov_run()) tests 15, 4 and 5 in this order for each
+/// record, and 16 at the end of the file.
+///
 /// ```
 /// use quorum::{query, Refusal};
 ///
@@ -73,11 +76,13 @@ impl Refusal {
     pub const BAD_ENDS: u64 = 3;
 
     /// A number is not above the one before it in its run, a second 0 too. The
-    /// place is its index in the numbers.
+    /// place is its index in the numbers; from [`lcov_run()`](crate::lcov_run()) it
+    /// is its index in the run.
     pub const NOT_RISING: u64 = 4;
 
     /// One more answer is due and the answer buffer is full. The place is the
-    /// number of parts written.
+    /// number of parts written. From [`lcov_run()`](crate::lcov_run()): one more
+    /// number is due and the row is full. The place is the count written.
     pub const ANSWERS_FULL: u64 = 5;
 
     /// One more part is due and does not fit the rest of the certificate
@@ -115,6 +120,15 @@ impl Refusal {
     /// There are not as many thresholds as masks, or fewer than two result
     /// places for each question. The place is the number of masks.
     pub const BAD_ROWS: u64 = 14;
+
+    /// A line of the section begins with `DA:` and goes on with anything but
+    /// digits for a number from 1 to 4294967295, a comma, digits, and then a comma
+    /// or its end. The place is the offset of the line's first byte.
+    pub const BAD_RECORD: u64 = 15;
+
+    /// The tracefile has no such section, or the section has no `end_of_record`.
+    /// The place is the file's length.
+    pub const NO_SECTION: u64 = 16;
 }
 
 impl fmt::Display for Refusal {
@@ -129,7 +143,9 @@ impl fmt::Display for Refusal {
                  or is above 1,048,576"
             }
             Refusal::NOT_RISING => "a number is not above the one before it in its run",
-            Refusal::ANSWERS_FULL => "one more answer is due and the answer buffer is full",
+            Refusal::ANSWERS_FULL => {
+                "one more answer, or number of a section, is due and the buffer for it is full"
+            }
             Refusal::CERTIFICATE_FULL => {
                 "one more part is due and does not fit the rest of the certificate buffer"
             }
@@ -151,6 +167,11 @@ impl fmt::Display for Refusal {
                 "there are not as many thresholds as masks, or fewer than two result places for \
                  each question"
             }
+            Refusal::BAD_RECORD => {
+                "a DA: line is not a number from 1 to 4294967295, a comma, a count, and then a \
+                 comma or the line's end"
+            }
+            Refusal::NO_SECTION => "the file has no such section, or the section has no end",
             _ => "an unknown ground",
         };
         write!(f, "refusal {} at {}: {ground}", self.number, self.place)

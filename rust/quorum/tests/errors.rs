@@ -1,6 +1,8 @@
 //! Refusals as errors: their texts, and `?` in functions whose errors differ.
 
-use quorum::{check, parts, probe_bound, query, Checked, Counts, Part, Refusal, Stopped};
+use quorum::{
+    check, lcov_run, parts, probe_bound, query, Checked, Counts, Part, Refusal, Stopped, StoppedRun,
+};
 use std::collections::BTreeSet;
 use std::error::Error;
 
@@ -91,10 +93,10 @@ fn texts_of_refusals() {
         let ground = text.strip_prefix(&format!("refusal {number} at 17: "));
         ground.map(str::to_string).expect("number and place")
     };
-    let known = (1..=14).filter(|&number| number != 12);
+    let known = (1..=16).filter(|&number| number != 12);
     let grounds: BTreeSet<String> = known.map(ground).collect();
-    assert_eq!(grounds.len(), 13);
-    for number in [0, 12, 15, u64::MAX] {
+    assert_eq!(grounds.len(), 15);
+    for number in [0, 12, 17, u64::MAX] {
         assert_eq!(ground(number), "an unknown ground");
     }
     assert!(!grounds.contains("an unknown ground"));
@@ -119,4 +121,27 @@ fn texts_of_stopped_queries() {
     assert_eq!(bad.refusal.number, Refusal::BAD_THRESHOLD);
     assert_eq!(bad.counts, Counts::default());
     assert_eq!(text(bad).as_deref(), Some(""));
+}
+
+/// A stopped reading of a tracefile tells its refusal once and what it wrote, if
+/// anything, and `?` turns it into its refusal.
+#[test]
+fn stopped_readings() {
+    let read = |file: &[u8]| lcov_run(file, 0, &mut [0; 2]);
+    let stopped = StoppedRun {
+        refusal: Refusal {
+            number: Refusal::NO_SECTION,
+            place: 14,
+        },
+        written: 1,
+    };
+    assert_eq!(read(b"SF:a.c\nDA:4,1\n"), Err(stopped));
+    let written = format!("{}; written before: numbers 1", stopped.refusal);
+    assert_eq!(stopped.to_string(), written);
+    assert!(stopped.source().is_none());
+
+    let refused = || -> Result<usize, Refusal> { Ok(read(b"SF:a.c\n")?) };
+    let none = read(b"SF:a.c\n").unwrap_err();
+    assert_eq!((none.written, refused()), (0, Err(none.refusal)));
+    assert_eq!(none.to_string(), none.refusal.to_string());
 }

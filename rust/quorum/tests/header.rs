@@ -86,6 +86,8 @@ fn constants_are_equal() {
         ("CONTRADICTED", Refusal::CONTRADICTED),
         ("BAD_CHOICE", Refusal::BAD_CHOICE),
         ("BAD_ROWS", Refusal::BAD_ROWS),
+        ("BAD_RECORD", Refusal::BAD_RECORD),
+        ("NO_SECTION", Refusal::NO_SECTION),
         ("MAX_RUNS", quorum::MAX_RUNS as u64),
         ("MAX_NUMBERS", quorum::MAX_NUMBERS as u64),
         ("FIRST_BIN", quorum::FIRST_BIN.into()),
@@ -198,6 +200,12 @@ fn places_of_results() {
     let row = ffi::probe_bound_chosen(&ends, 3, 5);
     assert_eq!(row.len(), length("BOUND_ROW"));
     assert_eq!(at(&row, "BOUND_PROBES"), 50);
+
+    let row = ffi::lcov_run(b"SF:a.c\nDA:4,1\n", 0, &mut [0]);
+    assert_eq!(row.len(), length("LCOV_ROW"));
+    assert_eq!(at(&row, "REFUSAL"), Refusal::NO_SECTION);
+    assert_eq!(at(&row, "PLACE"), 14);
+    assert_eq!(at(&row, "LCOV_WRITTEN"), 1);
 }
 
 #[test]

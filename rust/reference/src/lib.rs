@@ -15,6 +15,7 @@
 //! * [`parse()`] reads the input text of the program `hits`, and [`hits()`] gives
 //!   what it prints.
 //! * [`probe_bound`] gives an allowance that is enough.
+//! * [`lcov_run()`] reads one section of an LCOV tracefile as one run.
 //! * [`trace()`], [`is_true`] and [`fewest_parts()`] serve tests: they give the
 //!   whole walk and the definitions it is compared with.
 //! * [`testing`] is what the tests of this crate and the comparison share.
@@ -34,6 +35,7 @@ pub mod fewest_parts;
 pub mod first_checks;
 mod heads;
 pub mod hits;
+pub mod lcov;
 pub mod many;
 pub mod mask;
 pub mod probes;
@@ -54,6 +56,7 @@ pub use first_checks::{
     first_checks, first_checks_chosen, split_runs, Refusal, MAX_NUMBERS, MAX_RUNS,
 };
 pub use hits::hits;
+pub use lcov::{lcov_run, Reading};
 pub use many::{query_many, ManyOutcome};
 pub use mask::{all_runs, named_runs};
 pub use probes::{Probe, Probes};

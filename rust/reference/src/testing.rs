@@ -2,12 +2,16 @@
 //! from runs, all small inputs, random numbers and marks, and the specification's
 //! instances: queries as a list of runs, threshold, allowance, expected parts
 //! and outcome, checks as one of certificates and verdicts, and those about
-//! some of the runs in lists of their own.
+//! some of the runs and about tracefiles in lists of their own.
 
 use crate::{encode, Outcome, Part, Verdict};
 
+mod lcov;
 mod many;
 
+pub use lcov::{
+    lcov_instances, record_forms, LcovInstance, FOUR_SECTIONS, OTHER_LINES, SHORT_RECORD_FORMS,
+};
 pub use many::{
     bound_instances, choose, chosen_instances, many_instances, many_row, renumber, ManyInstance,
     FIRST_TWO_PARTS, LAST_TWO_PARTS, OUTER_TWO_PARTS,

@@ -1,4 +1,4 @@
-//! The input text of the program `hits`.
+//! The input text of the program `hits`, and what other texts share with it.
 
 use crate::first_checks::MAX_RUNS;
 
@@ -35,7 +35,7 @@ pub fn parse(input: &[u8], failed: bool) -> Result<Question, usize> {
 /// The question of a text within the limit of bytes, or the number of the
 /// first line that cannot be read.
 fn read_lines(text: &[u8]) -> Result<Question, usize> {
-    let mut lines = text.split_inclusive(|&byte| byte == b'\n');
+    let mut lines = lines(text);
     let (threshold, allowance) = lines.next().and_then(read_first_line).ok_or(1_usize)?;
     let mut question = Question {
         threshold,
@@ -58,6 +58,11 @@ fn read_lines(text: &[u8]) -> Result<Question, usize> {
     Ok(question)
 }
 
+/// The lines of a text, each with its byte 10, which the last may lack.
+pub(crate) fn lines(text: &[u8]) -> impl Iterator<Item = &[u8]> {
+    text.split_inclusive(|&byte| byte == b'\n')
+}
+
 /// The threshold and the allowance.
 fn read_first_line(line: &[u8]) -> Option<(u32, u32)> {
     match read_run(line)?[..] {
@@ -75,12 +80,14 @@ fn read_run(line: &[u8]) -> Option<Vec<u32>> {
 }
 
 /// A decimal number of at least one digit, leading zeros allowed.
-fn read_number(word: &[u8]) -> Option<u32> {
-    if word.is_empty() {
-        return None;
-    }
-    word.iter().try_fold(0_u32, |number, &byte| {
-        let digit = char::from(byte).to_digit(10)?;
+pub(crate) fn read_number(word: &[u8]) -> Option<u32> {
+    decimal_digits(word)?.try_fold(0_u32, |number, digit| {
         number.checked_mul(10)?.checked_add(digit)
     })
+}
+
+/// The decimal digits of a word that has at least one, and nothing else.
+pub(crate) fn decimal_digits(word: &[u8]) -> Option<impl Iterator<Item = u32> + '_> {
+    let is_number = !word.is_empty() && word.iter().all(u8::is_ascii_digit);
+    is_number.then(|| word.iter().map(|byte| u32::from(byte - b'0')))
 }
