@@ -25,6 +25,7 @@ rt staticlib quorum
 sh examples/test.sh
 sh examples/hits/test.sh
 (cd rust && cargo fmt --check && cargo test --release --offline --quiet)
+sh examples/lcov/test.sh
 bash scripts/test_scripts.sh
 
 printf '%s\n' "$tally"
