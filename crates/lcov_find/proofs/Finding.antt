@@ -1,6 +1,6 @@
 -- The sections of a file, line by line. Assumes nothing.
-use Prim.Native.Nat.{ℕ, zero, suc, _+_, _-_, _≤_, _<_}
-use lib.ListN.{length, getD, drop}
+use Prim.Native.Nat.{ℕ, zero, suc, _+_, _-_, _<_}
+use lib.ListN.{length, getD}
 use mathlib.Core.Bool.{Bool, true, false}
 use mathlib.Core.List.{List, [], _∷_}
 use mathlib.Core.Logic.{_≢_}
@@ -9,9 +9,8 @@ use native.Mathlib.Omega.{arith}
 use Rattle.model.proofs.Tests.{true-false}
 use Rattle.lcov_form.specs.Form.{Line, opens, closes, Section, unclosed, section, sections}
 use Rattle.lcov_form.specs.Reading.{sectionOf}
-use Rattle.text_read.specs.Pieces.{until}
 use Rattle.lcov_find.specs.Places.{linesAt, sectionAt, turns}
-use Rattle.lcov_find.proofs.Lines.{lines-start, lines-past, lineTo, lines-next}
+use Rattle.lcov_find.proofs.Lines.{lines-start, lines-past, Ends, lineTo, lines-next}
 
 module _ (line : Line) (lines : List Line) where
   pub passed-by : (inside : Bool) → turns inside (line .text) ≡ false → sections inside (line ∷ lines) ≡ sections inside lines
@@ -44,22 +43,16 @@ get-later : (x : Section) (xs : List Section) (i : ℕ) → i ≢ 0 → getD (x 
 get-later x xs zero h = absurd (h refl)
 get-later x xs (suc i) h = let q : i ≡ suc i - 1 = omega arith in ap (λ j. getD xs j unclosed) q
 
-module _ (file : List ℕ) (at end : ℕ) (h : at ≤ length file) (e : end ≡ at + until 10 (drop at file)) where
-  pub line-ends : end ≤ length file
-  line-ends = lines-next file at end h e .0
-
-  after : linesAt file at ≡ lineTo file at end ∷ linesAt file (end + 1)
-  after = lines-next file at end h e .1
-
+module _ {file : List ℕ} {at end : ℕ} (k : Ends file at end) where
   pub left-passed : (inside : Bool) (left : ℕ) → turns inside (lineTo file at end .text) ≡ false → leftOf file at inside left ≡ leftOf file (end + 1) inside left
-  left-passed inside left t = ap (λ x. getD x left unclosed) (ap (sections inside) after ∙ passed-by (lineTo file at end) (linesAt file (end + 1)) inside t)
+  left-passed inside left t = ap (λ x. getD x left unclosed) (ap (sections inside) (lines-next k) ∙ passed-by (lineTo file at end) (linesAt file (end + 1)) inside t)
 
   pub left-closed : (inside : Bool) (left : ℕ) → inside ≡ true → turns inside (lineTo file at end .text) ≡ true → leftOf file at inside left ≡ leftOf file (end + 1) false left
-  left-closed true left i t = ap (λ x. getD x left unclosed) (ap (sections true) after ∙ closed-by (lineTo file at end) (linesAt file (end + 1)) t)
+  left-closed true left i t = ap (λ x. getD x left unclosed) (ap (sections true) (lines-next k) ∙ closed-by (lineTo file at end) (linesAt file (end + 1)) t)
   left-closed false left i t = true-false i refl
 
   opening : turns false (lineTo file at end .text) ≡ true → sections false (linesAt file at) ≡ section (linesAt file (end + 1)) ∷ sections true (linesAt file (end + 1))
-  opening t = ap (sections false) after ∙ opened-by (lineTo file at end) (linesAt file (end + 1)) t
+  opening t = ap (sections false) (lines-next k) ∙ opened-by (lineTo file at end) (linesAt file (end + 1)) t
 
   pub left-found : (inside : Bool) (left : ℕ) → inside ≡ false → left ≡ 0 → turns inside (lineTo file at end .text) ≡ true → leftOf file at inside left ≡ sectionAt file (end + 1)
   unfolding sectionAt
@@ -68,6 +61,6 @@ module _ (file : List ℕ) (at end : ℕ) (h : at ≤ length file) (e : end ≡ 
 
   pub left-opened : (inside : Bool) (left : ℕ) → inside ≡ false → left ≢ 0 → turns inside (lineTo file at end .text) ≡ true
       → leftOf file at inside left ≡ leftOf file (end + 1) true (left - 1)
-  left-opened true left i k t = true-false refl i
-  left-opened false left i k t =
-      ap (λ x. getD x left unclosed) (opening t) ∙ get-later (section (linesAt file (end + 1))) (sections true (linesAt file (end + 1))) left k
+  left-opened true left i n t = true-false refl i
+  left-opened false left i n t =
+      ap (λ x. getD x left unclosed) (opening t) ∙ get-later (section (linesAt file (end + 1))) (sections true (linesAt file (end + 1))) left n

@@ -17,16 +17,25 @@ pub lines-past : (file : List ℕ) (at : ℕ) → length file < at → linesAt f
 unfolding linesAt linesFrom
 lines-past file at h = ap (linesFrom at) (pieces-out 10 file at h)
 
--- the line that ends at a place, and the lines after it
+-- a line that begins at a place and ends at another
+pub record Ends (file : List ℕ) (at end : ℕ) : Type 0 where
+  pub inside : at ≤ length file
+  pub ends : end ≡ at + until 10 (drop at file)
+
 abbrev pub lineTo : List ℕ → ℕ → ℕ → Line
 lineTo file at end = record { offset = at; text = take (end - at) (drop at file) }
 
-pub lines-next : (file : List ℕ) (at end : ℕ) → at ≤ length file → end ≡ at + until 10 (drop at file)
-    → (end ≤ length file) × (linesAt file at ≡ lineTo file at end ∷ linesAt file (end + 1))
-unfolding linesAt linesFrom
-lines-next file at end h e =
-    let (w, p) = pieces-next 10 file at end h e in
-    let d = length-drop at file in
-    let t = length-take (end - at) (drop at file) in
-    let q : at + length (take (end - at) (drop at file)) + 1 ≡ end + 1 = omega arith in
-    (w, ap (linesFrom at) p ∙ ap (λ x. lineTo file at end ∷ linesFrom x (pieces 10 file (end + 1))) q)
+module _ {file : List ℕ} {at end : ℕ} (k : Ends file at end) where
+  pub line-ends : end ≤ length file
+  line-ends = pieces-next 10 file at end (k .inside) (k .ends) .0
+
+  -- that line, and the lines after it
+  pub lines-next : linesAt file at ≡ lineTo file at end ∷ linesAt file (end + 1)
+  unfolding linesAt linesFrom
+  lines-next =
+      let (w, p) = pieces-next 10 file at end (k .inside) (k .ends) in
+      let d = length-drop at file in
+      let t = length-take (end - at) (drop at file) in
+      let e = k .ends in
+      let q : at + length (take (end - at) (drop at file)) + 1 ≡ end + 1 = omega (arith, e) in
+      ap (linesFrom at) p ∙ ap (λ x. lineTo file at end ∷ linesFrom x (pieces 10 file (end + 1))) q

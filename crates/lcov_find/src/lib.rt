@@ -22,18 +22,19 @@ pub fn find_section(file: &[u8], index: usize) -> usize
     let mut inside = false;
     while at <= file.len() {
         let end = at + text_read::first_of(&file[at..], 10);
+        let next = end + 1;
         if turns(&file[at..end], inside) {
             if inside {
                 inside = false;
             } else {
                 if left == 0 {
-                    return end + 1;
+                    return next;
                 }
                 left -= 1;
                 inside = true;
             }
         }
-        at = end + 1;
+        at = next;
     }
     at
 }

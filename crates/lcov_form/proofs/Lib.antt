@@ -1,3 +1,5 @@
+pub mod Claims
 pub mod Instances
+pub mod Room
 pub mod Runs
 pub mod Steps

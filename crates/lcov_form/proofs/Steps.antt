@@ -30,7 +30,7 @@ module _ (size room n last : ℕ) (line : Line) (rest : Section) where
     unfolding readFrom
     line-covered h k = rw (e, readFrom) (rw (lt-leb x last h, lt-leb room n k, readFrom))
 
-record-is : (r : Record) → (r ≡ malformed) ⊎ ((r ≡ passedOver) ⊎ ((x : ℕ) × (r ≡ covered x)))
+pub record-is : (r : Record) → (r ≡ malformed) ⊎ ((r ≡ passedOver) ⊎ ((x : ℕ) × (r ≡ covered x)))
 record-is (covered x) = inr (inr (x, refl))
 record-is malformed = inl refl
 record-is passedOver = inr (inl refl)

@@ -1,3 +1,4 @@
+pub mod Claims
 pub mod Form
 pub mod Instances
 pub mod Reading

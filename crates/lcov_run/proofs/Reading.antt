@@ -1,10 +1,10 @@
 -- A section read line by line, and what then stands in the row. Assumes nothing.
 use Prim.Native.Nat.{ℕ, _+_, _≤_, _<_}
-use lib.ListN.{length, drop, set, length-set}
+use lib.ListN.{length, set, length-set}
 use lib.Seq.{sets}
 use mathlib.Core.Bool.{true, false}
 use mathlib.Core.List.{List, [], _∷_}
-use mathlib.Core.Path.{_≡_, refl, sym, ap, subst, subst⁻¹, _∙_}
+use mathlib.Core.Path.{_≡_, refl, sym, ap, subst, _∙_}
 use native.Mathlib.Numerals.{add-one}
 use native.Mathlib.Omega.{arith}
 use Rattle.model.proofs.Buffers.{over-sets}
@@ -12,9 +12,8 @@ use Rattle.model.specs.Refusals.{Check, passed, refusal}
 use Rattle.lcov_form.specs.Form.{closes, closed, _andThen_, section, covered, malformed, passedOver, recordOf}
 use Rattle.lcov_form.specs.Reading.{Reading, stop, write, readFrom, resultOf}
 use Rattle.lcov_form.proofs.Steps.{line-malformed, line-passed, line-unrisen, line-full, line-covered}
-use Rattle.text_read.specs.Pieces.{until}
-use Rattle.lcov_find.specs.Places.{linesAt, sectionAt}
-use Rattle.lcov_find.proofs.Lines.{lines-past, lineTo, lines-next}
+use Rattle.lcov_find.specs.Places.{sectionAt}
+use Rattle.lcov_find.proofs.Lines.{lines-past, Ends, lineTo, lines-next}
 use Rattle.lcov_run.specs.declared.Outcome.{Outcome}
 use Rattle.lcov_run.specs.Outcomes.{checkIs, countIs, Returns}
 
@@ -26,25 +25,14 @@ pub read-end : (file : List ℕ) (room n last at : ℕ) → length file < at →
 unfolding sectionAt section readFrom
 read-end file room n last at h = rw (lines-past file at h)
 
--- a line that begins at a place and ends at another
-pub record Ends (file : List ℕ) (at end : ℕ) : Type 0 where
-  pub inside : at ≤ length file
-  pub ends : end ≡ at + until 10 (drop at file)
-
 module _ {file : List ℕ} {at end : ℕ} (k : Ends file at end) where
-  pub line-ends : end ≤ length file
-  line-ends = lines-next file at end (k .inside) (k .ends) .0
-
-  after : linesAt file at ≡ lineTo file at end ∷ linesAt file (end + 1)
-  after = lines-next file at end (k .inside) (k .ends) .1
-
   section-closed : closes (lineTo file at end .text) ≡ true → sectionAt file at ≡ closed
   unfolding sectionAt section
-  section-closed t = ap section after ∙ rw (t, section)
+  section-closed t = ap section (lines-next k) ∙ rw (t, section)
 
   section-on : closes (lineTo file at end .text) ≡ false → sectionAt file at ≡ (lineTo file at end andThen sectionAt file (end + 1))
   unfolding sectionAt section
-  section-on t = ap section after ∙ rw (t, section)
+  section-on t = ap section (lines-next k) ∙ rw (t, section)
 
   pub read-closed : (room n last : ℕ) → closes (lineTo file at end .text) ≡ true → restOf file room n last at ≡ stop passed
   unfolding readFrom
@@ -105,10 +93,3 @@ module _ {whole rest : Reading} {row₀ row : List ℕ} {n : ℕ} (p : Progress 
         count-is = let q = ap (λ r. length (r .run)) e in let k = p .counts in omega (arith, q, k, c);
         row-is = sym (ap (λ r. sets row n (r .run)) e) ∙ (sym (p .rows) ∙ over-sets (whole .run) row₀ h);
       }
-
--- the same with other names for the row and the counts
-pub progress-same : (file : List ℕ) (room at : ℕ) {whole : Reading} {row₀ row row′ : List ℕ} {n n′ last last′ : ℕ} → row′ ≡ row → n′ ≡ n → last′ ≡ last
-    → Progress whole (restOf file room n last at) row₀ row n → Progress whole (restOf file room n′ last′ at) row₀ row′ n′
-progress-same file room at {whole} {row₀} {row} {row′} {n} {n′} {last} {last′} e f g p =
-    subst⁻¹ (λ x. Progress whole (restOf file room n′ last′ at) row₀ x n′) e
-    (subst⁻¹ (λ x. Progress whole (restOf file room x last′ at) row₀ row x) f (subst⁻¹ (λ x. Progress whole (restOf file room n x at) row₀ row n) g p))

@@ -5,14 +5,10 @@ ghost use Rattle.lcov_form.specs.Reading.{readFrom, resultOf, lcovRun};
 ghost use Rattle.lcov_run.specs.Outcomes.{Returns};
 use lcov_line::Record;
 
-// How many numbers were written, and the refusal that ended it, if one did, with its place.
+// The count of the numbers written; before it a refusal's number and place, if one ended it.
 pub enum Outcome {
     Read(usize),
-    Refused {
-        number: u8,
-        place: usize,
-        count: usize,
-    },
+    Refused(u8, usize, usize),
 }
 
 // The section whose lines begin at a place.
@@ -24,45 +20,30 @@ fn read_section(file: &[u8], start: usize, run: &mut [u32]) -> Outcome
     let mut last: u32 = 0;
     while at <= file.len() {
         let end = at + text_read::first_of(&file[at..], 10);
+        let next = end + 1;
         if lcov_line::closes(&file[at..end]) {
             return Outcome::Read(n);
         }
         match lcov_line::read_record(&file[at..end]) {
             Record::Covered(x) => {
                 if x <= last {
-                    return Outcome::Refused {
-                        number: 4,
-                        place: n,
-                        count: n,
-                    };
+                    return Outcome::Refused(4, n, n);
                 }
                 if run.len() <= n {
-                    return Outcome::Refused {
-                        number: 5,
-                        place: n,
-                        count: n,
-                    };
+                    return Outcome::Refused(5, n, n);
                 }
                 run[n] = x;
                 n += 1;
                 last = x;
             }
             Record::Malformed => {
-                return Outcome::Refused {
-                    number: 15,
-                    place: at,
-                    count: n,
-                };
+                return Outcome::Refused(15, at, n);
             }
             Record::PassedOver => {}
         }
-        at = end + 1;
+        at = next;
     }
-    Outcome::Refused {
-        number: 16,
-        place: file.len(),
-        count: n,
-    }
+    Outcome::Refused(16, file.len(), n)
 }
 
 // The section with an index from 0 becomes one run at the front of the row. Linear in the file, one pass over it: nothing after the section is read.

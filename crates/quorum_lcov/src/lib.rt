@@ -12,11 +12,7 @@ pub fn put_reading(outcome: Outcome, result: &mut [u64; 3])
         Outcome::Read(count) => {
             *result = [0, 0, arith::u64_of_usize(count)];
         }
-        Outcome::Refused {
-            number,
-            place,
-            count,
-        } => {
+        Outcome::Refused(number, place, count) => {
             *result = [
                 number as u64,
                 arith::u64_of_usize(place),

@@ -20,7 +20,7 @@ pub fn first_of(bytes: &[u8], separator: u8) -> usize
         }
         i += 1;
     }
-    i
+    bytes.len()
 }
 
 // A word as a number. A value above 4294967295 is cut down after each digit, so it never exceeds 42949672969.

@@ -4,14 +4,14 @@ use borrow.Author.Needs.{needs}
 use lib.ListN.{length}
 use mathlib.Core.Bool.{false}
 use mathlib.Core.List.{List}
-use mathlib.Core.Logic.{⊎-elim}
 use mathlib.Core.Path.{_≡_, refl, sym, ap, _∙_}
 use native.Mathlib.Omega.{arith}
 use Rattle.lcov_form.proofs.Runs.{run-fits}
+use Rattle.lcov_find.proofs.Lines.{Ends, line-ends}
 use Rattle.lcov_find.specs.Places.{sectionAt}
 use Rattle.lcov_line.specs.Records.{recordIs}
 use Rattle.text_read.proofs.Pieces.{piece-ends}
-use Rattle.lcov_run.proofs.Reading.{restOf, read-end, Ends, line-ends, read-closed, read-malformed, read-passed, read-unrisen, read-full, read-covered, Progress, progress-start, progress-on, progress-write, progress-stop, progress-same}
+use Rattle.lcov_run.proofs.Reading.{restOf, read-end, read-closed, read-malformed, read-passed, read-unrisen, read-full, read-covered, Progress, progress-start, progress-on, progress-write, progress-stop}
 use Rattle.lcov_run.proofs.read_section.Statement.{statement}
 use Rattle.lcov_run.proofs.read_section.Tie as tie
 
@@ -58,6 +58,9 @@ fits l =
 
 add-end : tie.Need-add-end Inv-loop μ-loop
 add-end c = let h = line-ends (line-of c) in omega (arith, h)
+
+add-next : tie.Need-add-next Inv-loop μ-loop
+add-next c = let h = line-ends (line-of c) in omega (arith, h)
 
 sub-closes : tie.Need-sub-closes Inv-loop μ-loop
 sub-closes c = search needs
@@ -163,29 +166,28 @@ returns-4 c =
 enum-told-2 : tie.Need-enum-told-2 Inv-loop μ-loop
 enum-told-2 c = search needs
 
-add-at : tie.Need-add-at Inv-loop μ-loop
-add-at c = let h = line-ends (line-of (found-of (c .before))) in omega (arith, h)
-
 loop-less : tie.Need-loop-less Inv-loop μ-loop
 loop-less c = omega arith
 
 loop-again : tie.Need-loop-again Inv-loop μ-loop
 loop-again c =
-    let r = c .before in
+    let r = c .before .before .before .before .before in
     let l = loop-of (found-of r) in
-    let t = sym (r .before .before .before .closes .ensures) ∙ stays r in
     let e = l .loop .inv .lengths in
-    ⊎-elim
-    (λ s.
-    progress-same (file-of l) (length (row-of l)) (l .loop .at + found-of r .first-of .result + 1) (s .5) (s .6) (s .7)
-    (progress-write (l .loop .inv) (s .1 .given .0 .0)
-    (read-covered (line-of (found-of r)) (length (row-of l)) (l .loop .n) (l .loop .last) t (sym (r .read-record .ensures) ∙ ap recordIs (s .1 .given .1)) (s .3 .left)
-    (omega (arith, e, s .4 .left)))))
-    (λ s.
-    progress-same (file-of l) (length (row-of l)) (l .loop .at + found-of r .first-of .result + 1) (s .2) (s .3) (s .4)
-    (progress-on (l .loop .inv)
-    (read-passed (line-of (found-of r)) (length (row-of l)) (l .loop .n) (l .loop .last) t (sym (r .read-record .ensures) ∙ ap recordIs (s .1 .given .1)))))
-    (c .match .came)
+    progress-write (l .loop .inv) (c .before .before .before .x .given .0 .0)
+    (read-covered (line-of (found-of r)) (length (row-of l)) (l .loop .n) (l .loop .last) (sym (r .before .before .before .closes .ensures) ∙ stays r)
+    (sym (r .read-record .ensures) ∙ ap recordIs (c .before .before .before .x .given .1)) (c .before .if2 .left) (omega (arith, e, c .if3 .left)))
+
+loop-less-2 : tie.Need-loop-less-2 Inv-loop μ-loop
+loop-less-2 c = omega arith
+
+loop-again-2 : tie.Need-loop-again-2 Inv-loop μ-loop
+loop-again-2 c =
+    let r = c .before .before in
+    let l = loop-of (found-of r) in
+    progress-on (l .loop .inv)
+    (read-passed (line-of (found-of r)) (length (row-of l)) (l .loop .n) (l .loop .last) (sym (r .before .before .before .closes .ensures) ∙ stays r)
+    (sym (r .read-record .ensures) ∙ ap recordIs (c .enum-told2 .given .1)))
 
 same-length-5 : tie.Need-same-length-5 Inv-loop μ-loop
 same-length-5 c = c .before .loop .inv .lengths
@@ -207,6 +209,7 @@ read-section-spec =
     part-first-of-end
     first-of-requires
     add-end
+    add-next
     sub-closes
     part-closes-start
     part-closes-end
@@ -229,8 +232,9 @@ read-section-spec =
     same-length-4
     returns-4
     enum-told-2
-    add-at
     loop-less
     loop-again
+    loop-less-2
+    loop-again-2
     same-length-5
     returns-5)

@@ -1,0 +1,29 @@
+-- What holds of every run read. Assumes nothing.
+use Prim.Native.Nat.{ℕ, suc, _+_, _*_, _≤_, _<_}
+use lib.ListN.{length, take, drop}
+use lib.Seq.{take-append-seam, drop-append-seam}
+use mathlib.Core.List.{List, _∷_}
+use mathlib.Core.Option.{none}
+use mathlib.Core.Path.{_≡_, sym, ap, _∙_}
+use native.Mathlib.Omega.{arith}
+use Rattle.model.specs.Refusals.{over}
+use Rattle.model.specs.Runs.{unrisen}
+use Rattle.lcov_form.specs.Claims.{RunRead}
+use Rattle.lcov_form.specs.Reading.{Reading, readFrom, coveredIn, sectionOf, resultOf, lcovRun}
+use Rattle.lcov_form.proofs.Room.{section-room}
+use Rattle.lcov_form.proofs.Runs.{run-fits, run-front, run-whole, run-rises, run-room}
+
+pub run-read : (file : List ℕ) (index : ℕ) (row : List ℕ) → RunRead file index row
+unfolding lcovRun resultOf over unrisen
+run-read file index row =
+    let s = sectionOf file index in
+    let r : Reading = readFrom (length file) (length row) 0 0 s in
+    let seam = take-append-seam (r .run) (drop (length (r .run)) row) in
+    record {
+      fits = let h = run-fits (length file) (length row) 0 0 s (omega arith) in omega (arith, h);
+      rest = drop-append-seam (r .run) (drop (length (r .run)) row);
+      front = seam ∙ run-front (length file) (length row) 0 0 s;
+      whole = λ p. seam ∙ run-whole (length file) (length row) 0 0 s p;
+      rises = ap (λ x. unrisen 0 (0 ∷ x)) seam ∙ run-rises (length file) (length row) 0 0 s 0;
+      enough = λ h place. run-room (length file) (length row) 0 0 s (let k = section-room file index in omega (arith, h, k)) place;
+    }
