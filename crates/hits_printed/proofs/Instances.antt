@@ -8,7 +8,7 @@ use Rattle.model.specs.Refusals.{_then_, refuseIf, refuseAt, fallsFrom, lastEnd
 use Rattle.model.specs.Runs.{firstBin, lastBin, pastBin, from, runsFrom, runs, unrisenAfter, unrisen, total, one, count, mask}
 use Rattle.model.specs.Walk.{headOf, head, leastHead, tthHead, doubling, halving, seek, searchIn, searches, searched, movedOn, settle, round, walk}
 use Rattle.text_read.specs.Pieces.{onFirst, split}
-use Rattle.text_read.specs.Numbers.{allDigits, decimalValue, value, number}
+use Rattle.text_read.specs.Numbers.{isDigit, allDigits, decimalValue, value, number}
 use Rattle.text_write.specs.Decimal.{decimalIn, decimal}
 use Rattle.text_lines.specs.Lines.{numbersAfter, line}
 use Rattle.hits_input.specs.Input.{before, numbersOf, pair, twoWords, headingOf, runOf, runBefore, linesFrom, limited, row, endsFrom, resultOf, parseLines, parse}
@@ -23,7 +23,7 @@ use Rattle.hits_printed.specs.Instances.{listingInput, listingText, sear
 pub listing-printed : (hits false listingInput ≡ listingText) × (hits false searchInput ≡ searchText) × (hits false refusedInput ≡ refusedText)
     × (hits true partInput ≡ partText)
 unfolding listingInput listingText searchInput searchText refusedInput refusedText partInput partText bytes hits printed parsed textFor asked shown
-    mostBytes inputRuns inputNumbers answerRoom certificateRoom onFirst split allDigits decimalValue value number before numbersOf pair twoWords headingOf runOf runBefore linesFrom limited row endsFrom resultOf parseLines parse
+    mostBytes inputRuns inputNumbers answerRoom certificateRoom onFirst split isDigit allDigits decimalValue value number before numbersOf pair twoWords headingOf runOf runBefore linesFrom limited row endsFrom resultOf parseLines parse
     firstOf lastOf answersOf bytesOf numberOf field encodePart encode readBody readField wholeWalk partsOf cost doublingProbe halvingProbe doublingsOf halvingsOf
     _then_ refuseIf refuseAt fallsFrom lastEnd unrisenIn countCheck thresholdCheck listChecks firstChecks met after cut cutWalk over outcomeOf query
     firstBin lastBin pastBin from runsFrom runs unrisenAfter unrisen total one count mask

@@ -1,89 +1,161 @@
--- The values of a `DA:` line by the places of its first two commas. Assumes nothing.
-use Prim.Native.Nat.{ℕ, _+_, _-_, _≤_, _<_}
-use borrow.Author.Tests.{eq-eqb, ne-eqb, leb-false}
-use lib.Dec.{eqb, leb}
-use lib.ListN.{length, take, drop, length-drop}
+-- The values of a `DA:` line by the digits before its first two commas. Assumes nothing.
+use Prim.Native.Nat.{ℕ, suc, _+_, _≤_, _<_}
+use borrow.Author.Tests.{ne-eqb}
+use lib.ListN.{length, getD, take, drop}
+use lib.Seq.{take-all}
 use mathlib.Core.Bool.{true, false}
 use mathlib.Core.List.{List, [], _∷_}
-use mathlib.Core.Logic.{⊎-elim, _≢_}
+use mathlib.Core.Logic.{_⊎_, inl, inr, ⊎-elim, _≢_}
 use mathlib.Core.Option.{Option, none, some}
 use mathlib.Core.Path.{_≡_, refl, sym, ap, _∙_}
 use native.Mathlib.Omega.{arith}
-use Rattle.model.proofs.Tests.{both}
-use Rattle.model.specs.Runs.{lastBin}
-use Rattle.lcov_form.specs.Form.{Record, covered, malformed, passedOver, counted, values, recordOf}
+use Rattle.model.proofs.Tests.{eq-or-ne, lt-or-le}
+use Rattle.model.specs.Runs.{pastBin}
+use Rattle.lcov_form.specs.Form.{covered, malformed, passedOver, counted, values, recordOf}
 use Rattle.text_match.specs.Match.{begins}
-use Rattle.text_read.specs.declared.Word.{Word}
-use Rattle.text_read.specs.declared.Word.the-variants.{Number, TooLarge, NoNumber}
-use Rattle.text_read.specs.Numbers.{number, value, wordOf}
-use Rattle.text_read.specs.Pieces.{split, until, pieces}
+use Rattle.text_read.specs.declared.Digits.{Digits}
+use Rattle.text_read.specs.Numbers.{isDigit, value, number, digitCount, Leads}
+use Rattle.text_read.specs.Pieces.{split, until}
 use Rattle.text_read.specs.Text.{bytes}
-use Rattle.text_read.proofs.Pieces.{split-last, split-found, pieces-in, pieces-next, piece-ends}
+use Rattle.text_read.proofs.FirstDigits.{piece-all, piece-digits, piece-other}
+use Rattle.text_read.proofs.Pieces.{until-le, split-last, split-more}
+use Rattle.text_read.proofs.Values.{count-le, value-empty, value-not, some-digits, leading-large, leading-small}
 
-pub one-value : (text : List ℕ) → until 44 text ≡ length text → values (split 44 text) ≡ malformed
-unfolding values
-one-value text e = rw (split-last 44 text e)
+comma : isDigit 44 ≡ false
+unfolding isDigit
+comma = refl
 
-pub no-line : (o : Option ℕ) → counted none o ≡ malformed
+-- ---- a line number and a count
+
+pub no-count : (number : ℕ) → counted (some number) none ≡ malformed
+unfolding counted
+no-count number = refl
+
+pub count-zero : (number : ℕ) → 0 < number → counted (some number) (some 0) ≡ passedOver
+unfolding counted
+count-zero number h = rw (ne-eqb number 0 (λ e. omega (arith, e, h)), counted)
+
+pub count-above : (number n : ℕ) → 0 < number → n ≢ 0 → counted (some number) (some n) ≡ covered number
+unfolding counted
+count-above number n h k = rw (ne-eqb number 0 (λ e. omega (arith, e, h)), ne-eqb n 0 k, counted)
+
+line-zero : (o : Option ℕ) → counted (some 0) o ≡ malformed
+unfolding counted
+line-zero none = refl
+line-zero (some n) = refl
+
+no-line : (o : Option ℕ) → counted none o ≡ malformed
 unfolding counted
 no-line o = refl
 
-pub line-zero : (line : ℕ) (o : Option ℕ) → line ≡ 0 → counted (some line) o ≡ malformed
-unfolding counted
-line-zero line none e = refl
-line-zero line (some n) e = rw (eq-eqb line 0 e, counted)
+-- ---- the piece up to the first comma
 
--- the record of a line number that is not 0 and a count as it was read
-unfoldable pub judged : ℕ → Word → Record
-judged line (Number n) = elim (eqb n 0) [ true ↦ passedOver | false ↦ covered line ]
-judged line TooLarge = covered line
-judged line NoNumber = malformed
+abbrev pub piece : List ℕ → List ℕ
+piece text = take (until 44 text) text
 
-count-read : (line : ℕ) (o : Option ℕ) → line ≢ 0 → counted (some line) o ≡ judged line (wordOf o)
-unfolding counted judged wordOf lastBin
-count-read line none h = refl
-count-read line (some n) h =
+module _ (text : List ℕ) (digits : Digits) (d : Leads text digits) where
+  at-count : (n : ℕ) → getD text (digits .count) 0 ≡ n → getD text (digitCount text) 0 ≡ n
+  at-count n e = ap (λ i. getD text i 0) (sym (d .counts)) ∙ e
+
+  nothing : until 44 text ≡ 0 → value (piece text) ≡ none
+  nothing e = ap (λ n. value (take n text)) e ∙ value-empty [] refl
+
+  -- it is the digits, if a comma follows them or nothing does
+  pub piece-stands : ((digits .count < length text) × (getD text (digits .count) 0 ≡ 44)) ⊎ (length text ≤ digits .count) → until 44 text ≡ digits .count
+  piece-stands (inl h) =
+      let c = d .counts in
+      let k = h .0 in
+      piece-digits 44 comma text (omega (arith, c, k)) (at-count 44 (h .1)) ∙ sym c
+  piece-stands (inr h) =
+      let c = d .counts in
+      let k = count-le text in
+      let e : digitCount text ≡ length text = omega (arith, c, k, h) in
+      piece-all 44 comma text e ∙ (sym e ∙ sym c)
+
+  pub piece-none : digits .count < length text → getD text (digits .count) 0 ≢ 44 → value (piece text) ≡ none
+  piece-none h e =
+      let c = d .counts in
+      value-not (piece text) (piece-other 44 comma text (omega (arith, c, h)) (λ f. e (ap (λ i. getD text i 0) (d .counts) ∙ f)))
+
+  pub piece-empty : digits .count ≡ 0 → value (piece text) ≡ none
+  piece-empty e =
+      ⊎-elim
+      (λ (h : digits .count < length text).
+      ⊎-elim
+      (λ (f : getD text (digits .count) 0 ≡ 44). nothing (piece-stands (inl (h, f)) ∙ e))
+      (λ (f : getD text (digits .count) 0 ≢ 44). piece-none h f)
+      (eq-or-ne (getD text (digits .count) 0) 44))
+      (λ (h : length text ≤ digits .count). nothing (piece-stands (inr h) ∙ e))
+      (lt-or-le (digits .count) (length text))
+
+-- ---- the two values
+
+one-value : (text : List ℕ) → until 44 text ≡ length text → values (split 44 text) ≡ malformed
+unfolding values
+one-value text e = rw (split-last 44 text e)
+
+first-of-all : (l : List ℕ) → (rest : List (List ℕ)) × (split 44 l ≡ piece l ∷ rest)
+first-of-all l =
+    let u = until-le 44 l in
     ⊎-elim
-    (λ (t : leb n lastBin ≡ true). rw (ne-eqb line 0 h, counted) (rw (t, wordOf)))
-    (λ (t : leb n lastBin ≡ false).
-    let l = leb-false n lastBin t in
-    rw (ne-eqb line 0 h, ne-eqb n 0 (λ e. omega (arith, e, l)), counted) (rw (t, wordOf)))
-    (both (leb n lastBin))
+    (λ (h : until 44 l < length l). (split 44 (drop (suc (until 44 l)) l), split-more 44 l h))
+    (λ (h : length l ≤ until 44 l). let q : until 44 l ≡ length l = omega arith in ([], split-last 44 l q ∙ ap (λ x. x ∷ []) (sym (take-all (until 44 l) l h))))
+    (lt-or-le (until 44 l) (length l))
 
-module _ (text : List ℕ) (end : ℕ) (e : end ≡ until 44 text) (h : end ≢ length text) where
-  pub comma-inside : end < length text
-  comma-inside = split-found 44 text end e h .0
+two-values : (text : List ℕ) → until 44 text < length text → values (split 44 text) ≡ counted (number (piece text)) (value (piece (drop (suc (until 44 text)) text)))
+unfolding values
+two-values text h =
+    let (rest, p) = first-of-all (drop (suc (until 44 text)) text) in
+    ap values (split-more 44 text h ∙ ap (piece text ∷_) p)
 
-  module _ (n : ℕ) (f : n ≡ until 44 (take (length text - (end + 1)) (drop (end + 1) text))) where
-    next : (end + 1 + n ≤ length text) × (pieces 44 text (end + 1) ≡ take (end + 1 + n - (end + 1)) (drop (end + 1) text) ∷ pieces 44 text (end + 1 + n + 1))
-    next =
-        let l = comma-inside in
-        pieces-next 44 text (end + 1) (end + 1 + n) (omega arith) (piece-ends 44 text (end + 1) f)
+no-number : (text : List ℕ) → number (piece text) ≡ none → values (split 44 text) ≡ malformed
+no-number text e =
+    let u = until-le 44 text in
+    ⊎-elim
+    (λ (h : until 44 text < length text). two-values text h ∙ (ap (λ x. counted x (value (piece (drop (suc (until 44 text)) text)))) e ∙ no-line _))
+    (λ (h : length text ≤ until 44 text). let q : until 44 text ≡ length text = omega arith in one-value text q)
+    (lt-or-le (until 44 text) (length text))
 
-    pub count-inside : end + 1 + n ≤ length text
-    count-inside = next .0
+number-none : (word : List ℕ) → value word ≡ none → number word ≡ none
+unfolding number
+number-none word e = rw (e, number)
 
-    -- the line number and the count
-    pub two-values : values (split 44 text) ≡ counted (number (take (end - 0) text)) (value (take (end + 1 + n - (end + 1)) (drop (end + 1) text)))
-    unfolding values
-    two-values =
-        let l = comma-inside in
-        let z : end ≡ end - 0 = omega arith in
-        ap values (split-found 44 text end e h .1)
-        ∙ (ap (λ x. values (take end text ∷ x)) (sym (pieces-in 44 text (end + 1) (omega arith)) ∙ next .1)
-        ∙ ap (λ x. counted (number (take x text)) (value (take (end + 1 + n - (end + 1)) (drop (end + 1) text)))) z)
+module _ (text : List ℕ) (digits : Digits) (d : Leads text digits) where
+  pub no-comma : digits .count ≡ length text → values (split 44 text) ≡ malformed
+  no-comma e = one-value text (piece-stands text digits d (inr (omega (arith, e))) ∙ e)
 
-    pub no-line-number : number (take (end - 0) text) ≡ none → values (split 44 text) ≡ malformed
-    no-line-number q = two-values ∙ (ap (λ x. counted x (value (take (end + 1 + n - (end + 1)) (drop (end + 1) text)))) q ∙ no-line _)
+  pub count-inside : digits .count ≢ length text → digits .count < length text
+  count-inside h = let c = d .counts in let k = count-le text in omega (arith, c, k, h)
 
-    module _ (line : ℕ) (q : number (take (end - 0) text) ≡ some line) where
-      pub line-number-zero : line ≡ 0 → values (split 44 text) ≡ malformed
-      line-number-zero k = two-values ∙ (ap (λ x. counted x (value (take (end + 1 + n - (end + 1)) (drop (end + 1) text)))) q ∙ line-zero line _ k)
+  module _ (h : digits .count < length text) where
+    pub other-byte : getD text (digits .count) 0 ≢ 44 → values (split 44 text) ≡ malformed
+    other-byte e = no-number text (number-none (piece text) (piece-none text digits d h e))
 
-      pub count-judged : line ≢ 0 → {r : Word} → r ≡ wordOf (value (take (end + 1 + n - (end + 1)) (drop (end + 1) text))) → values (split 44 text) ≡ judged line r
-      count-judged k w =
-          two-values
-          ∙ (ap (λ x. counted x (value (take (end + 1 + n - (end + 1)) (drop (end + 1) text)))) q ∙ (count-read line _ k ∙ ap (judged line) (sym w)))
+    module _ (e : getD text (digits .count) 0 ≡ 44) where
+      ends : until 44 text ≡ digits .count
+      ends = piece-stands text digits d (inl (h, e))
+
+      both-values : {o : Option ℕ} → number (take (digits .count) text) ≡ o → values (split 44 text) ≡ counted o (value (piece (drop (digits .count + 1) text)))
+      both-values {o} q =
+          let i : until 44 text < length text = let z = ends in omega (arith, z, h) in
+          let j : suc (until 44 text) ≡ digits .count + 1 = let z = ends in omega (arith, z) in
+          two-values text i
+          ∙ (ap (λ x. counted x (value (piece (drop (suc (until 44 text)) text)))) (ap (λ n. number (take n text)) ends ∙ q)
+          ∙ ap (λ n. counted o (value (piece (drop n text)))) j)
+
+      pub zero-line : digits .value ≡ 0 → values (split 44 text) ≡ malformed
+      unfolding pastBin
+      zero-line z =
+          ⊎-elim
+          (λ (k : digits .count ≡ 0). both-values (number-none _ (ap (λ n. value (take n text)) k ∙ value-empty [] refl)) ∙ no-line _)
+          (λ (k : digits .count ≢ 0). both-values (leading-small text digits d k (omega (arith, z)) ∙ ap some z) ∙ line-zero _)
+          (eq-or-ne (digits .count) 0)
+
+      pub large-line : pastBin ≤ digits .value → values (split 44 text) ≡ malformed
+      large-line l = both-values (leading-large text digits d l) ∙ no-line _
+
+      pub line-counted : digits .value ≢ 0 → digits .value < pastBin → values (split 44 text) ≡ counted (some (digits .value)) (value (piece (drop (digits .count + 1) text)))
+      line-counted k l = both-values (leading-small text digits d (some-digits text digits d k) l)
 
 -- a line that begins `DA:`, and any other
 pub data-record : (text : List ℕ) → begins (68 ∷ 65 ∷ 58 ∷ []) text ≡ true → recordOf text ≡ values (split 44 (drop 3 text))

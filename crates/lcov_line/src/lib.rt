@@ -1,9 +1,12 @@
 // A line of an LCOV tracefile: whether it opens or closes a section, and in a section the line number that a `DA:` record covers.
 ghost use mathlib.Core.Path.{_≡_};
-ghost use Rattle.lcov_form.specs.Form.{opens, closes, recordOf, values};
-ghost use Rattle.text_read.specs.Pieces.{split};
+ghost use Prim.Native.Nat.{_<_};
+ghost use lib.ListN.{take};
+ghost use mathlib.Core.Option.{some};
+ghost use Rattle.lcov_form.specs.Form.{opens, closes, counted, recordOf, values};
+ghost use Rattle.text_read.specs.Numbers.{value};
+ghost use Rattle.text_read.specs.Pieces.{split, until};
 ghost use Rattle.lcov_line.specs.Records.{recordIs};
-use text_read::Word;
 
 pub enum Record {
     Covered(u32),
@@ -11,32 +14,46 @@ pub enum Record {
     PassedOver,
 }
 
-// What follows `DA:`: a line number and a count. The count may have any number of digits.
+// What follows the comma after a line number, which is above 0: a count, which may have any number of digits.
+fn read_count(text: &[u8], number: u32) -> Record
+    requires { ⌜ 0 < number ⌝ }
+    ensures { λ r. ⌜ recordIs r ≡ counted (some number) (value (take (until 44 (now (text .entry))) (now (text .entry)))) ⌝ }
+{
+    let count = text_read::leading_digits(text);
+    let end = count.count;
+    if end == 0 {
+        return Record::Malformed;
+    }
+    if end < text.len() {
+        if text[end] != 44 {
+            return Record::Malformed;
+        }
+    }
+    if count.value == 0 {
+        return Record::PassedOver;
+    }
+    Record::Covered(number)
+}
+
+// What follows `DA:`: a line number, a comma and a count. A value of 0 is that of no digits, or of line 0.
 fn read_values(text: &[u8]) -> Record
     ensures { λ r. ⌜ recordIs r ≡ values (split 44 (now (text .entry))) ⌝ }
 {
-    let end = text_read::first_of(text, 44);
+    let line = text_read::leading_digits(text);
+    let end = line.count;
     if end == text.len() {
         return Record::Malformed;
     }
-    let next = end + 1;
-    let past = next + text_read::first_of(&text[next..], 44);
-    let Word::Number(number) = text_read::read_word(&text[0..end]) else {
-        return Record::Malformed;
-    };
-    if number == 0 {
+    if text[end] != 44 {
         return Record::Malformed;
     }
-    match text_read::read_word(&text[next..past]) {
-        Word::Number(count) => {
-            if count == 0 {
-                return Record::PassedOver;
-            }
-            Record::Covered(number)
-        }
-        Word::TooLarge => Record::Covered(number),
-        Word::NoNumber => Record::Malformed,
+    if line.value == 0 {
+        return Record::Malformed;
     }
+    if limits::PAST_BIN <= line.value {
+        return Record::Malformed;
+    }
+    read_count(&text[end + 1..], line.value as u32)
 }
 
 // A line of a section.

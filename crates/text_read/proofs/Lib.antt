@@ -1,3 +1,4 @@
+pub mod FirstDigits
 pub mod Pieces
 pub mod Split
 pub mod Values

@@ -1,10 +1,9 @@
 -- The decimal value of a word, digit by digit. Assumes nothing.
-use Prim.Native.Nat.{ℕ, _+_, _-_, _*_, _≤_, _<_}
+use Prim.Native.Nat.{ℕ, suc, _+_, _-_, _*_, _≤_, _<_}
 use borrow.Author.Tests.{le-leb, lt-leb}
-use denote.Enum.Declared.{tagOf}
 use lib.Dec.{leb}
-use lib.ListN.{length, getD, drop, drop-of-length-le}
-use lib.Seq.{drop-cons}
+use lib.ListN.{length, getD, take, drop, length-take, drop-of-length-le}
+use lib.Seq.{drop-cons, take-all}
 use mathlib.Core.Bool.{Bool, true, false}
 use mathlib.Core.List.{List, [], _∷_}
 use mathlib.Core.Logic.{⊎-elim, _≢_}
@@ -12,93 +11,207 @@ use mathlib.Core.Option.{Option, none, some}
 use mathlib.Core.Path.{_≡_, refl, sym, ap, _∙_}
 use native.Mathlib.Numerals.{add-one}
 use native.Mathlib.Omega.{arith}
-use types.Run.{OneOf}
-use Rattle.model.proofs.Tests.{both}
+use Rattle.model.proofs.Tests.{both, lt-or-le}
 use Rattle.model.specs.Runs.{lastBin, pastBin}
-use Rattle.text_read.specs.declared.Word.{Word}
-use Rattle.text_read.specs.declared.Word.the-variants.{Number, TooLarge, NoNumber}
-use Rattle.text_read.proofs.Word.{the-type}
-use Rattle.text_read.specs.Numbers.{allDigits, decimalValue, value, number, wordOf}
+use Rattle.text_read.specs.declared.Digits.{Digits}
+use Rattle.text_read.specs.Numbers.{isDigit, allDigits, decimalValue, value, number, digitCount, leadingValue, cutDown, Leads}
 
--- the word whose first digits have the value n
-unfoldable pub valueFrom : ℕ → List ℕ → Option ℕ
-valueFrom n word = elim (allDigits word) [ true ↦ some (decimalValue n word) | false ↦ none ]
+-- ---- a byte
+
+digit-below : (b : ℕ) → b < 48 → isDigit b ≡ false
+unfolding isDigit
+digit-below b h = rw (lt-leb 48 b h, isDigit)
+
+digit-above : (b : ℕ) → 48 ≤ b → 57 < b → isDigit b ≡ false
+unfolding isDigit
+digit-above b h k = rw (le-leb 48 b h, lt-leb b 57 k, isDigit)
+
+digit-is : (b : ℕ) → 48 ≤ b → b ≤ 57 → isDigit b ≡ true
+unfolding isDigit
+digit-is b h k = rw (le-leb 48 b h, le-leb b 57 k, isDigit)
+
+-- ---- the digits that a text begins with, from a place on
+
+module _ (n : ℕ) (text : List ℕ) (i : ℕ) where
+  module _ (h : i < length text) where
+    stops : isDigit (getD text i 0) ≡ false → (digitCount (drop i text) ≡ 0) × (leadingValue n (drop i text) ≡ n)
+    unfolding digitCount leadingValue
+    stops e = (rw (drop-cons text i 0 h) (rw (e, digitCount)), rw (drop-cons text i 0 h) (rw (e, leadingValue)))
+
+    pub stops-below : getD text i 0 < 48 → (digitCount (drop i text) ≡ 0) × (leadingValue n (drop i text) ≡ n)
+    stops-below l = stops (digit-below (getD text i 0) l)
+
+    pub stops-above : 48 ≤ getD text i 0 → 57 < getD text i 0 → (digitCount (drop i text) ≡ 0) × (leadingValue n (drop i text) ≡ n)
+    stops-above k l = stops (digit-above (getD text i 0) k l)
+
+    pub goes-on : 48 ≤ getD text i 0 → getD text i 0 ≤ 57
+        → (digitCount (drop i text) ≡ suc (digitCount (drop (i + 1) text))) × (leadingValue n (drop i text) ≡ leadingValue (n * 10 + (getD text i 0 - 48)) (drop (i + 1) text))
+    unfolding digitCount leadingValue
+    goes-on k l =
+        let e = digit-is (getD text i 0) k l in
+        (rw (drop-cons text i 0 h, add-one i) (rw (e, digitCount)), rw (drop-cons text i 0 h, add-one i) (rw (e, leadingValue)))
+
+  pub digits-end : length text ≤ i → (digitCount (drop i text) ≡ 0) × (leadingValue n (drop i text) ≡ n)
+  unfolding digitCount leadingValue
+  digits-end h = (rw (drop-of-length-le text h), rw (drop-of-length-le text h))
+
+value-grows : (n : ℕ) (text : List ℕ) → n ≤ leadingValue n text
+unfolding leadingValue
+value-grows n [] = omega arith
+value-grows n (b ∷ text) =
+    ⊎-elim
+    (λ (t : isDigit b ≡ true). rw (t, leadingValue) (let h = value-grows (n * 10 + (b - 48)) text in omega arith))
+    (λ (t : isDigit b ≡ false). rw (t, leadingValue) (omega arith))
+    (both (isDigit b))
+
+pub cut-small : (n : ℕ) → n ≤ lastBin → cutDown n ≡ n
+unfolding cutDown
+cut-small n h = rw (le-leb n lastBin h, cutDown)
+
+pub cut-large : (n : ℕ) → lastBin < n → cutDown n ≡ pastBin
+unfolding cutDown
+cut-large n h = rw (lt-leb n lastBin h, cutDown)
+
+-- a value that is too large may be any such
+pub cut-any : (n m : ℕ) (text : List ℕ) → lastBin < n → lastBin < m → cutDown (leadingValue n text) ≡ cutDown (leadingValue m text)
+cut-any n m text h k =
+    let g = value-grows n text in
+    let f = value-grows m text in
+    cut-large (leadingValue n text) (omega arith) ∙ sym (cut-large (leadingValue m text) (omega arith))
+
+-- ---- a word
+
+pub count-le : (text : List ℕ) → digitCount text ≤ length text
+unfolding digitCount
+count-le [] = omega arith
+count-le (b ∷ text) =
+    ⊎-elim
+    (λ (t : isDigit b ≡ true). rw (t, digitCount) (let h = count-le text in omega arith))
+    (λ (t : isDigit b ≡ false). rw (t, digitCount) (omega arith))
+    (both (isDigit b))
+
+-- what the leading digits are
+pub leading-digits : (text : List ℕ) → allDigits (take (digitCount text) text) ≡ true
+unfolding digitCount allDigits
+leading-digits [] = refl
+leading-digits (b ∷ text) =
+    ⊎-elim
+    (λ (t : isDigit b ≡ true). rw (t, digitCount) (rw (t, allDigits) (leading-digits text)))
+    (λ (t : isDigit b ≡ false). rw (t, digitCount))
+    (both (isDigit b))
+
+pub leading-value : (n : ℕ) (text : List ℕ) → leadingValue n text ≡ decimalValue n (take (digitCount text) text)
+unfolding digitCount leadingValue decimalValue
+leading-value n [] = refl
+leading-value n (b ∷ text) =
+    ⊎-elim
+    (λ (t : isDigit b ≡ true). rw (t, digitCount, leadingValue) (leading-value (n * 10 + (b - 48)) text))
+    (λ (t : isDigit b ≡ false). rw (t, digitCount, leadingValue))
+    (both (isDigit b))
+
+value-of : (word : List ℕ) → 1 ≤ length word → allDigits word ≡ true → value word ≡ some (decimalValue 0 word)
+unfolding value
+value-of [] h e = absurd (omega (arith, h))
+value-of (b ∷ word) h e = rw (e, value)
+
+pub value-not : (word : List ℕ) → allDigits word ≡ false → value word ≡ none
+unfolding value
+value-not [] e = refl
+value-not (b ∷ word) e = rw (e, value)
+
+-- a piece that is the digits that a text begins with
+pub value-leading : (text : List ℕ) → 1 ≤ digitCount text → value (take (digitCount text) text) ≡ some (leadingValue 0 text)
+value-leading text h =
+    let t = length-take (digitCount text) text in
+    let k = count-le text in
+    value-of (take (digitCount text) text) (omega arith) (leading-digits text) ∙ ap some (sym (leading-value 0 text))
 
 pub value-empty : (word : List ℕ) → length word ≡ 0 → value word ≡ none
 unfolding value
 value-empty [] e = refl
 value-empty (b ∷ word) e = let z : _≡_ {A = ℕ} 0 1 = omega arith in absurd (omega arith)
 
-pub value-start : (word : List ℕ) → length word ≢ 0 → value word ≡ valueFrom 0 word
-unfolding value valueFrom
-value-start [] e = absurd (e refl)
-value-start (b ∷ word) e = refl
-
-module _ (n : ℕ) (word : List ℕ) (i : ℕ) (h : i < length word) where
-  pub below-digits : getD word i 0 < 48 → valueFrom n (drop i word) ≡ none
-  unfolding valueFrom allDigits
-  below-digits l = rw (drop-cons word i 0 h) (rw (lt-leb 48 (getD word i 0) l, valueFrom))
-
-  pub above-digits : 48 ≤ getD word i 0 → 57 < getD word i 0 → valueFrom n (drop i word) ≡ none
-  unfolding valueFrom allDigits
-  above-digits k l = rw (drop-cons word i 0 h) (rw (le-leb 48 (getD word i 0) k, lt-leb (getD word i 0) 57 l, valueFrom))
-
-  pub digit-on : 48 ≤ getD word i 0 → getD word i 0 ≤ 57 → valueFrom n (drop i word) ≡ valueFrom (n * 10 + (getD word i 0 - 48)) (drop (i + 1) word)
-  unfolding valueFrom allDigits decimalValue
-  digit-on k l = rw (drop-cons word i 0 h, add-one i) (rw (le-leb 48 (getD word i 0) k, le-leb (getD word i 0) 57 l, valueFrom))
-
-pub value-grows : (n : ℕ) (word : List ℕ) → n ≤ decimalValue n word
-unfolding decimalValue
-value-grows n [] = omega arith
-value-grows n (b ∷ word) = let h = value-grows (n * 10 + (b - 48)) word in omega arith
-
-pub word-large : (n : ℕ) → lastBin < n → wordOf (some n) ≡ TooLarge
-unfolding wordOf
-word-large n h = rw (lt-leb n lastBin h, wordOf)
-
-large-from : (n : ℕ) (word : List ℕ) → lastBin < n → wordOf (valueFrom n word) ≡ wordOf (elim (allDigits word) [ true ↦ some pastBin | false ↦ none ])
-unfolding valueFrom lastBin pastBin
-large-from n word h =
+-- a word that begins with fewer digits than it has bytes is none
+not-all : (word : List ℕ) → digitCount word < length word → allDigits word ≡ false
+unfolding digitCount allDigits
+not-all [] h = absurd (omega (arith, h))
+not-all (b ∷ word) h =
     ⊎-elim
-    (λ (t : allDigits word ≡ true).
-    let g = value-grows n word in
-    rw (t, valueFrom) (word-large (decimalValue n word) (omega arith) ∙ sym (word-large pastBin (omega arith))))
-    (λ (t : allDigits word ≡ false). rw (t, valueFrom))
-    (both (allDigits word))
+    (λ (t : isDigit b ≡ true). rw (t, allDigits) (not-all word (let k = rw (t, digitCount) at h in omega (arith, k))))
+    (λ (t : isDigit b ≡ false). rw (t, allDigits))
+    (both (isDigit b))
 
--- a value that is too large may be any such
-pub cut-down : (n m : ℕ) (word : List ℕ) → lastBin < n → lastBin < m → wordOf (valueFrom n word) ≡ wordOf (valueFrom m word)
-cut-down n m word h k = large-from n word h ∙ sym (large-from m word k)
+-- The piece of the digits that a text begins with, by what was read of them.
+module _ (text : List ℕ) (digits : Digits) (d : Leads text digits) where
+  none-zero : digitCount text ≡ 0 → digits .value ≡ 0
+  unfolding lastBin decimalValue
+  none-zero e =
+      let v = leading-value 0 text in
+      let t : leadingValue 0 text ≡ 0 = v ∙ ap (λ n. decimalValue 0 (take n text)) e in
+      d .values ∙ (ap cutDown t ∙ cut-small 0 (omega arith))
 
-pub word-end : (n : ℕ) (word : List ℕ) (i : ℕ) → length word ≤ i → wordOf (valueFrom n (drop i word)) ≡ wordOf (some n)
-unfolding valueFrom allDigits decimalValue
-word-end n word i h = rw (drop-of-length-le word h)
+  -- a value above 0 is of some digits
+  pub some-digits : digits .value ≢ 0 → digits .count ≢ 0
+  some-digits h e = h (none-zero (sym (d .counts) ∙ e))
 
-pub word-small : (n : ℕ) → n ≤ lastBin → wordOf (some n) ≡ Number n
-unfolding wordOf
-word-small n h = rw (le-leb n lastBin h, wordOf)
+  leading-piece : digits .count ≢ 0 → value (take (digits .count) text) ≡ some (leadingValue 0 text)
+  leading-piece h =
+      let c = d .counts in
+      ap (λ n. value (take n text)) c ∙ value-leading text (omega (arith, c, h))
 
--- the number that a word read is
-abbrev pub wordIs : Word → Option ℕ
-wordIs (Number x) = some x
-wordIs TooLarge = none
-wordIs NoNumber = none
+  -- whether a count is above 0
+  pub leading-zero : digits .count ≢ 0 → digits .value ≡ 0 → value (take (digits .count) text) ≡ some 0
+  unfolding lastBin pastBin
+  leading-zero h e =
+      ⊎-elim
+      (λ (m : lastBin < leadingValue 0 text). let v = d .values ∙ cut-large (leadingValue 0 text) m in absurd (omega (arith, v, e)))
+      (λ (m : leadingValue 0 text ≤ lastBin). let v = d .values ∙ cut-small (leadingValue 0 text) m in leading-piece h ∙ ap some (sym v ∙ e))
+      (lt-or-le lastBin (leadingValue 0 text))
 
-word-is : (o : Option ℕ) → wordIs (wordOf o) ≡ elim o [ none ↦ none | some n ↦ elim (leb n lastBin) [ true ↦ some n | false ↦ none ] ]
-unfolding wordOf
-word-is none = refl
-word-is (some n) =
-    ⊎-elim
-    (λ (t : leb n lastBin ≡ true). rw (t, wordOf))
-    (λ (t : leb n lastBin ≡ false). rw (t, wordOf))
-    (both (leb n lastBin))
+  pub leading-above : digits .value ≢ 0 → (n : ℕ) × ((value (take (digits .count) text) ≡ some n) × (n ≢ 0))
+  unfolding lastBin
+  leading-above h = (
+    leadingValue 0 text,
+    (leading-piece (some-digits h), λ e. h (d .values ∙ (ap cutDown e ∙ cut-small 0 (omega arith)))),
+  )
 
-pub word-read : (word : List ℕ) {r : Word} → r ≡ wordOf (value word) → number word ≡ wordIs r
-unfolding number
-word-read word e = sym (ap wordIs e ∙ word-is (value word))
+  -- its number
+  pub leading-large : pastBin ≤ digits .value → number (take (digits .count) text) ≡ none
+  unfolding number lastBin pastBin
+  leading-large l =
+      ⊎-elim
+      (λ (m : lastBin < leadingValue 0 text).
+      rw (leading-piece (some-digits (λ e. omega (arith, e, l))), number) (rw (lt-leb (leadingValue 0 text) lastBin m, number)))
+      (λ (m : leadingValue 0 text ≤ lastBin). let v = d .values ∙ cut-small (leadingValue 0 text) m in absurd (omega (arith, v, l, m)))
+      (lt-or-le lastBin (leadingValue 0 text))
 
--- a word of another kind than a number, as a test of the kind tells it, is none
-pub no-number : (r : Word) → OneOf (1 ∷ 2 ∷ []) (tagOf the-type r) → wordIs r ≡ none
-no-number (Number x) k = absurd (⊎-elim (λ (e : 0 ≡ 1). omega (arith, e)) (λ (e : 0 ≡ 2). omega (arith, e)) k)
-no-number TooLarge k = refl
-no-number NoNumber k = refl
+  pub leading-small : digits .count ≢ 0 → digits .value < pastBin → number (take (digits .count) text) ≡ some (digits .value)
+  unfolding number lastBin pastBin
+  leading-small h l =
+      ⊎-elim
+      (λ (m : lastBin < leadingValue 0 text). let v = d .values ∙ cut-large (leadingValue 0 text) m in absurd (omega (arith, v, l)))
+      (λ (m : leadingValue 0 text ≤ lastBin).
+      rw (leading-piece h, number) (rw (le-leb (leadingValue 0 text) lastBin m, number) (ap some (sym (d .values ∙ cut-small (leadingValue 0 text) m)))))
+      (lt-or-le lastBin (leadingValue 0 text))
+
+-- A word, which is that piece if it has no other byte.
+module _ (word : List ℕ) (digits : Digits) (d : Leads word digits) where
+  pub number-empty : digits .count ≡ 0 → number word ≡ none
+  unfolding number
+  number-empty e =
+      let c = d .counts in
+      ⊎-elim
+      (λ (h : digitCount word < length word). rw (value-not word (not-all word h), number))
+      (λ (h : length word ≤ digitCount word). rw (value-empty word (omega (arith, e, c)), number))
+      (lt-or-le (digitCount word) (length word))
+
+  pub number-not : digits .count < length word → number word ≡ none
+  unfolding number
+  number-not h = let c = d .counts in rw (value-not word (not-all word (omega (arith, c, h))), number)
+
+  module _ (k : length word ≤ digits .count) where
+    pub number-large : pastBin ≤ digits .value → number word ≡ none
+    number-large l = ap number (sym (take-all (digits .count) word k)) ∙ leading-large word digits d l
+
+    pub number-small : digits .count ≢ 0 → digits .value < pastBin → number word ≡ some (digits .value)
+    number-small h l = ap number (sym (take-all (digits .count) word k)) ∙ leading-small word digits d h l

@@ -1,17 +1,26 @@
--- A piece of a text as a decimal number. Definitions only.
-use Prim.Native.Nat.{ℕ, _+_, _-_, _*_}
+-- A piece of a text as a decimal number, and the digits that a text begins with. Definitions only.
+use Prim.Native.Nat.{ℕ, suc, _+_, _-_, _*_}
 use mathlib.Core.Bool.{true, false, Bool, _&&_}
 use mathlib.Core.List.{List, [], _∷_}
 use mathlib.Core.Option.{Option, none, some}
+use mathlib.Core.Path.{_≡_}
 use lib.Dec.{leb}
+use Rattle.text_read.specs.declared.Digits.{Digits}
 use Rattle.text_read.specs.declared.Word.{Word}
-use Rattle.text_read.specs.declared.Word.the-variants.{Number, TooLarge, NoNumber}
-use Rattle.model.specs.Runs.{lastBin}
+use Rattle.text_read.specs.declared.Word.the-variants.{Number, NoNumber}
+use Rattle.model.specs.Runs.{lastBin, pastBin}
+
+abbrev pub wordIs : Word → Option ℕ
+wordIs (Number x) = some x
+wordIs NoNumber = none
 
 -- Digits are bytes 48 to 57.
+unfoldable pub isDigit : ℕ → Bool
+isDigit b = leb 48 b && leb b 57
+
 unfoldable pub allDigits : List ℕ → Bool
 allDigits [] = true
-allDigits (b ∷ word) = (leb 48 b && leb b 57) && allDigits word
+allDigits (b ∷ word) = isDigit b && allDigits word
 
 -- (n is the value of the digits before)
 unfoldable pub decimalValue : ℕ → List ℕ → ℕ
@@ -27,7 +36,19 @@ value (b ∷ word) = elim (allDigits (b ∷ word)) [ true ↦ some (decimalValue
 unfoldable pub number : List ℕ → Option ℕ
 number word = elim (value word) [ none ↦ none | some n ↦ elim (leb n lastBin) [ true ↦ some n | false ↦ none ] ]
 
--- a value as the code's enum
-unfoldable pub wordOf : Option ℕ → Word
-wordOf none = NoNumber
-wordOf (some n) = elim (leb n lastBin) [ true ↦ Number n | false ↦ TooLarge ]
+-- The digits that a text begins with: how many, and their value. (n is the value of the digits before.)
+unfoldable pub digitCount : List ℕ → ℕ
+digitCount [] = 0
+digitCount (b ∷ text) = elim (isDigit b) [ true ↦ suc (digitCount text) | false ↦ 0 ]
+
+unfoldable pub leadingValue : ℕ → List ℕ → ℕ
+leadingValue n [] = n
+leadingValue n (b ∷ text) = elim (isDigit b) [ true ↦ leadingValue (n * 10 + (b - 48)) text | false ↦ n ]
+
+-- a value above 4294967295 cut down to the next number
+unfoldable pub cutDown : ℕ → ℕ
+cutDown n = elim (leb n lastBin) [ true ↦ n | false ↦ pastBin ]
+
+pub record Leads (text : List ℕ) (digits : Digits) : Type 0 where
+  pub counts : digits .count ≡ digitCount text
+  pub values : digits .value ≡ cutDown (leadingValue 0 text)

@@ -1,11 +1,16 @@
 // Text as bytes, read: the pieces between separators, and a piece as a decimal number.
 ghost use mathlib.Core.Path.{_≡_};
 ghost use Rattle.text_read.specs.Pieces.{until};
-ghost use Rattle.text_read.specs.Numbers.{value, wordOf};
+ghost use Rattle.text_read.specs.Numbers.{Leads, number, wordIs};
+
+// The digits that a text begins with: how many, and their value or, if it is above 4294967295, the next number.
+pub struct Digits {
+    pub count: usize,
+    pub value: u64,
+}
 
 pub enum Word {
     Number(u32),
-    TooLarge,
     NoNumber,
 }
 
@@ -23,22 +28,25 @@ pub fn first_of(bytes: &[u8], separator: u8) -> usize
     bytes.len()
 }
 
-// A word as a number. A value above 4294967295 is cut down after each digit, so it never exceeds 42949672969.
-pub fn read_word(word: &[u8]) -> Word
-    ensures { λ r. ⌜ r ≡ wordOf (value (now (word .entry))) ⌝ }
+// The digits that a text begins with. A value above 4294967295 is cut down after each digit, so it never exceeds 42949672969.
+pub fn leading_digits(text: &[u8]) -> Digits
+    ensures { λ r. ⌜ Leads (now (text .entry)) r ⌝ }
 {
-    if word.len() == 0 {
-        return Word::NoNumber;
-    }
     let mut value: u64 = 0;
     let mut i: usize = 0;
-    while i < word.len() {
-        let b = word[i];
+    while i < text.len() {
+        let b = text[i];
         if b < 48 {
-            return Word::NoNumber;
+            return Digits {
+                count: i,
+                value: value,
+            };
         }
         if 57 < b {
-            return Word::NoNumber;
+            return Digits {
+                count: i,
+                value: value,
+            };
         }
         value = value * 10 + arith::u64_of_u8(b - 48);
         if limits::PAST_BIN < value {
@@ -46,8 +54,25 @@ pub fn read_word(word: &[u8]) -> Word
         }
         i += 1;
     }
-    if limits::PAST_BIN <= value {
-        return Word::TooLarge;
+    Digits {
+        count: i,
+        value: value,
     }
-    Word::Number(value as u32)
+}
+
+// A word as a number.
+pub fn read_word(word: &[u8]) -> Word
+    ensures { λ r. ⌜ wordIs r ≡ number (now (word .entry)) ⌝ }
+{
+    let digits = leading_digits(word);
+    if digits.count == 0 {
+        return Word::NoNumber;
+    }
+    if digits.count < word.len() {
+        return Word::NoNumber;
+    }
+    if limits::PAST_BIN <= digits.value {
+        return Word::NoNumber;
+    }
+    Word::Number(digits.value as u32)
 }

@@ -6,8 +6,7 @@ use mathlib.Core.Option.{Option}
 use mathlib.Core.Path.{_≡_, refl, sym, ap, _∙_}
 use native.Mathlib.Omega.{arith}
 use Rattle.hits_input.specs.Input.{pair, headingOf}
-use Rattle.text_read.specs.Numbers.{number}
-use Rattle.text_read.proofs.Values.{wordIs, word-read, no-number}
+use Rattle.text_read.specs.Numbers.{number, wordIs}
 use Rattle.hits_heading.proofs.Headings.{heading-one, space-inside, next-inside, heading-more, heading-two}
 use Rattle.hits_heading.proofs.read_first.Statement.{statement}
 use Rattle.hits_heading.proofs.read_first.Tie as tie
@@ -79,11 +78,14 @@ read-word-requires c κs = search needs
 enum-known-threshold : tie.Need-enum-known-threshold
 enum-known-threshold c = search needs
 
+enum-told : tie.Need-enum-told
+enum-told c = search needs
+
 returns-3 : tie.Need-returns-3
 unfolding pair
 returns-3 c =
-    let w = c .before in
-    sym (two (w .before .before) (word-read _ (w .read-word .ensures) ∙ no-number (w .read-word .result) (c .match .keys2)) refl)
+    let w = c .before .before in
+    sym (two (w .before .before) (sym (w .read-word .ensures) ∙ ap wordIs (c .enum-told .given .1)) refl)
 
 sub-read-word-2 : tie.Need-sub-read-word-2
 sub-read-word-2 c = search needs
@@ -100,14 +102,17 @@ read-word-requires-2 c κs = search needs
 enum-known-allowance : tie.Need-enum-known-allowance
 enum-known-allowance c = search needs
 
+enum-told-2 : tie.Need-enum-told-2
+enum-told-2 c = search needs
+
 returns-4 : tie.Need-returns-4
 unfolding pair
 returns-4 c =
-    let b = c .before .before .before in
+    let b = c .before .before .before .before in
     let w = b .before .before .before in
     sym
-    (two (w .before .before) (word-read _ (w .read-word .ensures) ∙ ap wordIs (b .before .threshold .given .1))
-    (word-read _ (c .before .read-word2 .ensures) ∙ no-number (c .before .read-word2 .result) (c .match2 .keys2)))
+    (two (w .before .before) (sym (w .read-word .ensures) ∙ ap wordIs (b .before .threshold .given .1))
+    (sym (c .before .before .read-word2 .ensures) ∙ ap wordIs (c .enum-told2 .given .1)))
 
 returns-5 : tie.Need-returns-5
 unfolding pair
@@ -115,8 +120,8 @@ returns-5 c =
     let b = c .before .before .before .before .before in
     let w = b .before .before .before in
     sym
-    (two (w .before .before) (word-read _ (w .read-word .ensures) ∙ ap wordIs (b .before .threshold .given .1))
-    (word-read _ (c .before .before .before .read-word2 .ensures) ∙ ap wordIs (c .before .allowance .given .1)))
+    (two (w .before .before) (sym (w .read-word .ensures) ∙ ap wordIs (b .before .threshold .given .1))
+    (sym (c .before .before .before .read-word2 .ensures) ∙ ap wordIs (c .before .allowance .given .1)))
 
 pub read-first-spec : {M : Type 1} → statement M
 read-first-spec =
@@ -136,11 +141,13 @@ read-first-spec =
     part-read-word-end
     read-word-requires
     enum-known-threshold
+    enum-told
     returns-3
     sub-read-word-2
     part-read-word-start-2
     part-read-word-end-2
     read-word-requires-2
     enum-known-allowance
+    enum-told-2
     returns-4
     returns-5)

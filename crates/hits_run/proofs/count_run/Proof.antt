@@ -6,9 +6,9 @@ use lib.ListN.{length}
 use mathlib.Core.Path.{_≡_, sym, ap, _∙_}
 use native.Mathlib.Omega.{arith}
 use Rattle.hits_input.specs.Input.{numbersOf, runOf}
+use Rattle.text_read.specs.Numbers.{wordIs}
 use Rattle.hits_run.specs.Line.{countOf}
 use Rattle.text_read.proofs.Pieces.{piece-ends}
-use Rattle.text_read.proofs.Values.{wordIs, word-read, no-number}
 use Rattle.hits_run.proofs.Words.{wordsAt, countFrom, word-inside, count-empty, count-start, count-on, count-stop, count-end}
 use Rattle.hits_run.proofs.count_run.Statement.{statement}
 use Rattle.hits_run.proofs.count_run.Tie as tie
@@ -61,16 +61,19 @@ read-word-requires c κs = search needs
 enum-known-x : tie.Need-enum-known-x Inv-loop μ-loop
 enum-known-x c = search needs
 
+enum-told : tie.Need-enum-told Inv-loop μ-loop
+enum-told c = search needs
+
 returns-2 : tie.Need-returns-2 Inv-loop μ-loop
 returns-2 c =
-    let l = c .before .before .before .before .before .before in
+    let l = c .before .before .before .before .before .before .before in
     let a = l .before .before .before .args in
-    let f = c .before .before .before .first-of in
-    let w = c .before .read-word in
+    let f = c .before .before .before .before .first-of in
+    let w = c .before .before .read-word in
     sym
     (l .loop .inv .2
     ∙ count-stop (a .line .now) (l .loop .at) (l .loop .at + f .result) (omega arith) (piece-ends 32 (a .line .now) (l .loop .at) (f .ensures)) (l .loop .n)
-    (word-read _ (w .ensures) ∙ no-number (w .result) (c .match .keys2)))
+    (sym (w .ensures) ∙ ap wordIs (c .enum-told .given .1)))
 
 add-n : tie.Need-add-n Inv-loop μ-loop
 add-n c = let h = word-ends (c .before .before .before .before .before) in omega (arith, h)
@@ -93,7 +96,7 @@ loop-again c =
       omega arith,
       l .loop .inv .2
           ∙ count-on (a .line .now) (l .loop .at) (l .loop .at + f .result) (omega arith) (piece-ends 32 (a .line .now) (l .loop .at) (f .ensures)) (l .loop .n) (g .0 .0)
-          (word-read _ (w .ensures) ∙ ap wordIs (g .1)),
+          (sym (w .ensures) ∙ ap wordIs (g .1)),
     )
 
 returns-3 : tie.Need-returns-3 Inv-loop μ-loop
@@ -120,6 +123,7 @@ count-run-spec =
     part-read-word-end
     read-word-requires
     enum-known-x
+    enum-told
     returns-2
     add-n
     add-at

@@ -5,9 +5,9 @@ use lib.ListN.{length}
 use mathlib.Core.Path.{sym, ap, _∙_}
 use native.Mathlib.Omega.{arith}
 use Rattle.text_read.specs.Pieces.{split}
+use Rattle.text_read.specs.Numbers.{wordIs}
 use Rattle.hits_run.specs.Line.{leading}
 use Rattle.text_read.proofs.Pieces.{piece-ends}
-use Rattle.text_read.proofs.Values.{wordIs, word-read, no-number}
 use Rattle.hits_run.proofs.Words.{Storing, storing-start, storing-on, storing-room, storing-stop, storing-end, word-inside}
 use Rattle.hits_run.proofs.write_run.Statement.{statement}
 use Rattle.hits_run.proofs.write_run.Tie as tie
@@ -60,17 +60,20 @@ read-word-requires c κs = search needs
 enum-known-x : tie.Need-enum-known-x Inv-loop μ-loop
 enum-known-x c = search needs
 
+enum-told : tie.Need-enum-told Inv-loop μ-loop
+enum-told c = search needs
+
 same-length : tie.Need-same-length Inv-loop μ-loop
 same-length c = search needs
 
 returns : tie.Need-returns Inv-loop μ-loop
 returns c =
-    let l = c .before .before .before .before .before .before in
+    let l = c .before .before .before .before .before .before .before in
     let a = l .before .before .before .args in
-    let f = c .before .before .before .first-of in
-    let w = c .before .read-word in
+    let f = c .before .before .before .before .first-of in
+    let w = c .before .before .read-word in
     storing-stop (a .line .now) (a .numbers .now) (a .from) (l .loop .numbers) (l .loop .n) (l .loop .at) (l .loop .inv .0)
-    (l .loop .at + f .result) (omega arith) (piece-ends 32 (a .line .now) (l .loop .at) (f .ensures)) (word-read _ (w .ensures) ∙ no-number (w .result) (c .match .keys2))
+    (l .loop .at + f .result) (omega arith) (piece-ends 32 (a .line .now) (l .loop .at) (f .ensures)) (sym (w .ensures) ∙ ap wordIs (c .enum-told .given .1))
 
 mul-numbers : tie.Need-mul-numbers Inv-loop μ-loop
 mul-numbers c = search needs
@@ -84,7 +87,7 @@ slice-write-numbers c =
     let g = c .before .x .given in
     storing-room (a .line .now) (a .numbers .now) (a .from) (l .loop .numbers) (l .loop .n) (l .loop .at) (l .loop .inv .0)
     (l .loop .at + f .result) (omega arith) (piece-ends 32 (a .line .now) (l .loop .at) (f .ensures))
-    (g .0 .0) (word-read _ (w .ensures) ∙ ap wordIs (g .1)) (l .loop .inv .1)
+    (g .0 .0) (sym (w .ensures) ∙ ap wordIs (g .1)) (l .loop .inv .1)
 
 add-n : tie.Need-add-n Inv-loop μ-loop
 add-n c = search needs
@@ -104,7 +107,7 @@ loop-again c =
     let g = c .before .x .given in (
       storing-on (a .line .now) (a .numbers .now) (a .from) (l .loop .numbers) (l .loop .n) (l .loop .at) (l .loop .inv .0)
           (l .loop .at + f .result) (omega arith) (piece-ends 32 (a .line .now) (l .loop .at) (f .ensures))
-          (g .0 .0) (word-read _ (w .ensures) ∙ ap wordIs (g .1)),
+          (g .0 .0) (sym (w .ensures) ∙ ap wordIs (g .1)),
       l .loop .inv .1,
     )
 
@@ -134,6 +137,7 @@ write-run-spec =
     part-read-word-end
     read-word-requires
     enum-known-x
+    enum-told
     same-length
     returns
     mul-numbers

@@ -1,175 +1,96 @@
--- `read_values` gives the line number that a `DA:` line covers. Assumes nothing.
-use Prim.Native.Nat.{ℕ, _+_, _-_, _≤_}
+-- `read_values` gives the record that follows `DA:`. Assumes nothing.
+use Prim.Native.Nat.{_+_, _<_}
 use borrow.Author.Needs.{needs}
-use borrow.Author.Tests.{eq-eqb, ne-eqb}
 use lib.ListN.{length, take, drop}
-use mathlib.Core.List.{List}
-use mathlib.Core.Option.{Option, some}
+use mathlib.Core.Option.{some}
 use mathlib.Core.Path.{_≡_, sym, ap, _∙_}
 use native.Mathlib.Omega.{arith}
-use Rattle.lcov_form.specs.Form.{values}
-use Rattle.text_read.specs.Pieces.{split}
-use Rattle.text_read.proofs.Values.{wordIs, word-read, no-number}
-use Rattle.lcov_line.proofs.Values.{one-value, comma-inside, count-inside, no-line-number, line-number-zero, judged, count-judged}
+use Rattle.model.specs.Runs.{pastBin}
+use Rattle.lcov_form.specs.Form.{counted}
+use Rattle.text_read.specs.Numbers.{value}
+use Rattle.text_read.proofs.Pieces.{rest-is}
+use Rattle.lcov_line.proofs.Values.{piece, no-comma, count-inside, other-byte, zero-line, large-line, line-counted}
 use Rattle.lcov_line.proofs.read_values.Statement.{statement}
 use Rattle.lcov_line.proofs.read_values.Tie as tie
 
-first-of-requires : tie.Need-first-of-requires
-first-of-requires c κs = search needs
+leading-digits-requires : tie.Need-leading-digits-requires
+leading-digits-requires c κs = search needs
 
 returns : tie.Need-returns
 returns c =
-    let a = c .before .before .before .args in
-    sym (one-value (a .text .now) (sym (c .before .first-of .ensures) ∙ c .if1 .taken))
+    let d = c .before in
+    sym (no-comma (d .before .before .args .text .now) (d .leading-digits .result) (d .leading-digits .ensures) (c .if1 .taken))
 
-add-next : tie.Need-add-next
-add-next c =
-    let a = c .before .before .before .args in
-    let h = comma-inside (a .text .now) _ (c .before .first-of .ensures) (c .if1 .left) in
-    omega (arith, h)
+-- a byte follows the digits
+follows : (c : tie.Else1) → (let d = c .before in d .leading-digits .result .count < length (d .before .before .args .text .now))
+follows c =
+    let d = c .before in
+    count-inside (d .before .before .args .text .now) (d .leading-digits .result) (d .leading-digits .ensures) (c .if1 .left)
 
-sub-first-of : tie.Need-sub-first-of
-sub-first-of c =
-    let a = c .before .before .before .args in
-    let h = comma-inside (a .text .now) _ (c .before .first-of .ensures) (c .if1 .left) in
-    omega (arith, h)
-
-part-first-of-start : tie.Need-part-first-of-start
-part-first-of-start c =
-    let a = c .before .before .before .args in
-    let h = comma-inside (a .text .now) _ (c .before .first-of .ensures) (c .if1 .left) in
-    omega (arith, h)
-
-part-first-of-end : tie.Need-part-first-of-end
-part-first-of-end c = search needs
-
-first-of-requires-2 : tie.Need-first-of-requires-2
-first-of-requires-2 c κs = search needs
-
--- the text, and where its count ends
-abbrev text-of : tie.After-first-of2 → List ℕ
-text-of c = c .before .before .before .before .before .args .text .now
-
-count-ends : (c : tie.After-first-of2) → c .before .before .before .first-of .result + 1 + c .first-of2 .result ≤ length (text-of c)
-count-ends c =
-    count-inside (text-of c) _ (c .before .before .before .first-of .ensures) (c .before .before .if1 .left) _ (c .first-of2 .ensures)
-
-add-past : tie.Need-add-past
-add-past c = let h = count-ends c in omega (arith, h)
-
-sub-read-word : tie.Need-sub-read-word
-sub-read-word c = search needs
-
-part-read-word-start : tie.Need-part-read-word-start
-part-read-word-start c = search needs
-
-part-read-word-end : tie.Need-part-read-word-end
-part-read-word-end c = let h = count-ends c in omega (arith, h)
-
-read-word-requires : tie.Need-read-word-requires
-read-word-requires c κs = search needs
-
-enum-known-number : tie.Need-enum-known-number
-enum-known-number c = search needs
+shared-slice-read-if2 : tie.Need-shared-slice-read-if2
+shared-slice-read-if2 c = follows (c .before)
 
 returns-2 : tie.Need-returns-2
 returns-2 c =
-    let f = c .before .before .before in
-    let w = c .before .read-word in
-    sym
-    (no-line-number (text-of f) _ (f .before .before .before .first-of .ensures) (f .before .before .if1 .left) _ (f .first-of2 .ensures)
-    (word-read _ (w .ensures) ∙ no-number (w .result) (c .match .keys2)))
+    let d = c .before .before .before in
+    sym (other-byte (d .before .before .args .text .now) (d .leading-digits .result) (d .leading-digits .ensures) (follows (c .before .before)) (c .if2 .taken))
 
 returns-3 : tie.Need-returns-3
 returns-3 c =
-    let w = c .before .before .before .before in
-    let f = w .before .before in
-    let g = c .before .before .number .given in
-    sym
-    (line-number-zero (text-of f) _ (f .before .before .before .first-of .ensures) (f .before .before .if1 .left) _ (f .first-of2 .ensures)
-    (g .0 .0) (word-read _ (w .read-word .ensures) ∙ ap wordIs (g .1)) (c .if2 .taken))
-
-sub-read-word-2 : tie.Need-sub-read-word-2
-sub-read-word-2 c = search needs
-
-part-read-word-start-2 : tie.Need-part-read-word-start-2
-part-read-word-start-2 c = search needs
-
-part-read-word-end-2 : tie.Need-part-read-word-end-2
-part-read-word-end-2 c = let h = count-ends (c .before .before .before .before .before .before) in omega (arith, h)
-
-read-word-requires-2 : tie.Need-read-word-requires-2
-read-word-requires-2 c κs = search needs
-
-enum-known-count : tie.Need-enum-known-count
-enum-known-count c = search needs
-
--- the record by the count as it was read
-by-count : (c : tie.After-read-word2) → (let e = c .before .before in
-    values (split 44 (text-of (e .before .before .before .before .before .before))) ≡ judged (e .before .before .number .given .0 .0) (c .read-word2 .result))
-by-count c =
-    let e = c .before .before in
-    let w = e .before .before .before .before in
-    let f = w .before .before in
-    let g = e .before .before .number .given in
-    count-judged (text-of f) _ (f .before .before .before .first-of .ensures) (f .before .before .if1 .left) _ (f .first-of2 .ensures)
-    (g .0 .0) (word-read _ (w .read-word .ensures) ∙ ap wordIs (g .1)) (e .if2 .left) (c .read-word2 .ensures)
+    let d = c .before .before .before .before .before in
+    sym (zero-line (d .before .before .args .text .now) (d .leading-digits .result) (d .leading-digits .ensures) (follows (c .before .before .before .before)) (c .before .before .if2 .left) (c .if3 .taken))
 
 returns-4 : tie.Need-returns-4
-unfolding judged
+unfolding pastBin
 returns-4 c =
-    let w = c .before .before .before .before in
-    let g = c .before .before .count .given in
-    sym (by-count w ∙ (ap (judged _) (g .1) ∙ rw (eq-eqb (g .0 .0) 0 (c .if3 .taken), judged)))
+    let d = c .before .before .before .before .before .before .before in
+    sym (large-line (d .before .before .args .text .now) (d .leading-digits .result) (d .leading-digits .ensures) (follows (c .before .before .before .before .before .before)) (c .before .before .before .before .if2 .left) (c .if4 .taken))
 
-enum-told : tie.Need-enum-told
-enum-told c = search needs
+add-read-count : tie.Need-add-read-count
+add-read-count c = let h = follows (c .before .before .before .before .before .before) in omega (arith, h)
 
-enum-told-2 : tie.Need-enum-told-2
-enum-told-2 c = search needs
+sub-read-count : tie.Need-sub-read-count
+sub-read-count c = let h = follows (c .before .before .before .before .before .before) in omega (arith, h)
+
+part-read-count-start : tie.Need-part-read-count-start
+part-read-count-start c = let h = follows (c .before .before .before .before .before .before) in omega (arith, h)
+
+part-read-count-end : tie.Need-part-read-count-end
+part-read-count-end c = search needs
+
+cast-read-count : tie.Need-cast-read-count
+cast-read-count c = search needs
+
+read-count-requires : tie.Need-read-count-requires
+read-count-requires c κs = omega (arith, c .before .before .before .before .if3 .left)
 
 returns-5 : tie.Need-returns-5
-unfolding judged
+unfolding pastBin
 returns-5 c =
-    let w = c .before .before .before .before in
-    let g = c .before .before .count .given in
-    sym (by-count w ∙ (ap (judged _) (g .1) ∙ rw (ne-eqb (g .0 .0) 0 (c .if3 .left), judged)))
-
-returns-6 : tie.Need-returns-6
-unfolding judged
-returns-6 c = sym (by-count (c .before .before) ∙ ap (judged _) (c .enum-told .given .1))
-
-returns-7 : tie.Need-returns-7
-unfolding judged
-returns-7 c = sym (by-count (c .before .before) ∙ ap (judged _) (c .enum-told2 .given .1))
+    let e = c .before .before .before in
+    let d = e .before .before .before .before .before .before .before in
+    let t = d .before .before .args .text .now in
+    let n = d .leading-digits .result in
+    c .read-count .ensures
+    ∙ (ap (λ x. counted (some (n .value)) (value (piece x))) (rest-is t (n .count + 1))
+    ∙ sym
+    (line-counted t n (d .leading-digits .ensures) (follows (e .before .before .before .before .before .before)) (e .before .before .before .before .if2 .left)
+    (e .before .before .if3 .left) (e .if4 .left)))
 
 pub read-values-spec : {M : Type 1} → statement M
 read-values-spec =
     tie.close
     (tie.spec
-    first-of-requires
+    leading-digits-requires
     returns
-    add-next
-    sub-first-of
-    part-first-of-start
-    part-first-of-end
-    first-of-requires-2
-    add-past
-    sub-read-word
-    part-read-word-start
-    part-read-word-end
-    read-word-requires
-    enum-known-number
+    shared-slice-read-if2
     returns-2
     returns-3
-    sub-read-word-2
-    part-read-word-start-2
-    part-read-word-end-2
-    read-word-requires-2
-    enum-known-count
     returns-4
-    enum-told
-    enum-told-2
-    returns-5
-    returns-6
-    returns-7)
+    add-read-count
+    sub-read-count
+    part-read-count-start
+    part-read-count-end
+    cast-read-count
+    read-count-requires
+    returns-5)
