@@ -4,7 +4,7 @@ use Prim.Native.Nat.{ℕ, zero, suc, _+_, _-_, _*_, _/_, _%_, _≤_, _<_}
 use borrow.Author.Tests.{leb-true, ltb-false, lt-ltb, le-ltb, eq-eqb, ne-eqb}
 use lib.Dec.{leb, ltb, eqb}
 use lib.ListN.{length, take, replicate, length-replicate, length-append}
-use mathlib.Core.Bool.{Bool, true, false, _&&_, _||_, not}
+use mathlib.Core.Bool.{Bool, true, false, _||_, not}
 use mathlib.Core.List.{List, [], _∷_, _++_, append-assoc, List·Memᴰ·head, List·Memᴰ·tail, List·Memᴰ·not-nil, List·Memᴰ·cases-cons}
 use mathlib.Core.Logic.{_⊎_, inl, inr, ⊎-elim, _≢_}
 use mathlib.Core.Option.{Option, none, some}
@@ -15,7 +15,7 @@ use Rattle.model.specs.Demands.{Fits}
 use Rattle.model.specs.Refusals.{Check, passed, refusal, _then_, refuseIf, refuseAt, fallsFrom, lastEnd, countCheck, thresholdCheck, listChecks, firstChecks, Outcome, accepted, refused, query}
 use Rattle.model.specs.Runs.{lastBin, pastBin, mostNumbers, runs}
 use Rattle.model.proofs.Enough.{room-enough}
-use Rattle.model.proofs.Tests.{lt-or-le, and-true, or-false}
+use Rattle.model.proofs.Tests.{lt-or-le, or-false}
 use Rattle.hits_input.specs.Input as text
 use Rattle.hits_limits.specs.Limits.{mostBytes, inputRuns, inputNumbers, answerRoom, certificateRoom}
 use Rattle.text_write.specs.Decimal.{decimalIn, decimal}

@@ -2,12 +2,12 @@
 use Prim.Native.Nat.{ℕ, zero, suc, _+_, _-_, _<_}
 use lib.ListN.{length, getD}
 use mathlib.Core.Bool.{Bool, true, false}
-use mathlib.Core.List.{List, [], _∷_}
+use mathlib.Core.List.{List, _∷_}
 use mathlib.Core.Logic.{_≢_}
-use mathlib.Core.Path.{_≡_, refl, sym, ap, _∙_}
+use mathlib.Core.Path.{_≡_, refl, ap, _∙_}
 use native.Mathlib.Omega.{arith}
 use Rattle.model.proofs.Tests.{true-false}
-use Rattle.lcov_form.specs.Form.{Line, opens, closes, Section, unclosed, section, sections}
+use Rattle.lcov_form.specs.Form.{Line, Section, unclosed, section, sections}
 use Rattle.lcov_form.specs.Reading.{sectionOf}
 use Rattle.lcov_find.specs.Places.{linesAt, sectionAt, turns}
 use Rattle.lcov_find.proofs.Lines.{lines-start, lines-past, Ends, lineTo, lines-next}

@@ -1,15 +1,14 @@
 -- What holds of every run read. Assumes nothing.
-use Prim.Native.Nat.{ℕ, suc, _+_, _*_, _≤_, _<_}
-use lib.ListN.{length, take, drop}
+use Prim.Native.Nat.{ℕ}
+use lib.ListN.{length, drop}
 use lib.Seq.{take-append-seam, drop-append-seam}
 use mathlib.Core.List.{List, _∷_}
-use mathlib.Core.Option.{none}
-use mathlib.Core.Path.{_≡_, sym, ap, _∙_}
+use mathlib.Core.Path.{ap, _∙_}
 use native.Mathlib.Omega.{arith}
 use Rattle.model.specs.Refusals.{over}
 use Rattle.model.specs.Runs.{unrisen}
 use Rattle.lcov_form.specs.Claims.{RunRead}
-use Rattle.lcov_form.specs.Reading.{Reading, readFrom, coveredIn, sectionOf, resultOf, lcovRun}
+use Rattle.lcov_form.specs.Reading.{Reading, readFrom, sectionOf, resultOf, lcovRun}
 use Rattle.lcov_form.proofs.Room.{section-room}
 use Rattle.lcov_form.proofs.Runs.{run-fits, run-front, run-whole, run-rises, run-room}
 

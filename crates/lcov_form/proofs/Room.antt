@@ -16,7 +16,7 @@ use Rattle.text_read.proofs.Pieces.{until-le, split-last, split-more}
 use Rattle.text_read.specs.Numbers.{number, value}
 use Rattle.text_read.specs.Pieces.{onFirst, split, until}
 use Rattle.text_read.specs.Text.{bytes}
-use Rattle.lcov_form.specs.Form.{Line, linesFrom, lines, opens, closes, Section, closed, unclosed, _andThen_, section, sections, Record, covered, malformed, passedOver, counted, values, recordOf}
+use Rattle.lcov_form.specs.Form.{Line, linesFrom, lines, opens, closes, Section, unclosed, _andThen_, section, sections, Record, covered, malformed, passedOver, counted, values, recordOf}
 use Rattle.lcov_form.specs.Reading.{coveredIn, sectionOf}
 use Rattle.lcov_form.proofs.Steps.{record-is}
 

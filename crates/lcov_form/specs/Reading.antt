@@ -1,11 +1,11 @@
 -- docs/SPECIFICATION.md, 'LCOV tracefiles': the run of a section, for any bytes. Definitions only.
 use Prim.Native.Nat.{ℕ, suc}
-use mathlib.Core.Bool.{Bool, true, false}
+use mathlib.Core.Bool.{true, false}
 use mathlib.Core.List.{List, [], _∷_}
 use lib.Dec.{leb}
 use lib.ListN.{length, getD}
 use Rattle.model.specs.Refusals.{Check, passed, refusal, over}
-use Rattle.lcov_form.specs.Form.{Line, lines, Section, closed, unclosed, _andThen_, sections, covered, malformed, passedOver, recordOf}
+use Rattle.lcov_form.specs.Form.{lines, Section, closed, unclosed, _andThen_, sections, covered, malformed, passedOver, recordOf}
 
 -- One section becomes one run: the line number of each `DA:` record whose count is above 0, in the order met.
 unfoldable pub coveredIn : Section → List ℕ

@@ -3,12 +3,12 @@ use Prim.Native.Nat.{ℕ, _+_, _≤_, _<_}
 use lib.ListN.{length, set, length-set}
 use lib.Seq.{sets}
 use mathlib.Core.Bool.{true, false}
-use mathlib.Core.List.{List, [], _∷_}
+use mathlib.Core.List.{List}
 use mathlib.Core.Path.{_≡_, refl, sym, ap, subst, _∙_}
 use native.Mathlib.Numerals.{add-one}
 use native.Mathlib.Omega.{arith}
 use Rattle.model.proofs.Buffers.{over-sets}
-use Rattle.model.specs.Refusals.{Check, passed, refusal}
+use Rattle.model.specs.Refusals.{passed, refusal}
 use Rattle.lcov_form.specs.Form.{closes, closed, _andThen_, section, covered, malformed, passedOver, recordOf}
 use Rattle.lcov_form.specs.Reading.{Reading, stop, write, readFrom, resultOf}
 use Rattle.lcov_form.proofs.Steps.{line-malformed, line-passed, line-unrisen, line-full, line-covered}

@@ -143,7 +143,10 @@ impl Runs {
         // that lacks its end has the `SF:` line before it.
         let most = section.bytes.len() / 7;
         self.numbers.resize(start + most, 0);
-        let read = lcov_run(&tracefile.bytes, section.index, &mut self.numbers[start..]);
+        // Lent from its own `SF:` line on, it is section 0: however many sections a
+        // source has, none is passed over again for the next.
+        let bytes = &tracefile.bytes[section.bytes.start..];
+        let read = lcov_run(bytes, 0, &mut self.numbers[start..]);
         let count = read.map_err(|stopped| tracefile.tell(section, stopped.refusal))?;
         self.numbers.truncate(start + count);
         Ok(())
@@ -202,8 +205,6 @@ impl Runs {
 struct Section<'a> {
     /// What follows `SF:`.
     name: &'a [u8],
-    /// How many sections are before it.
-    index: usize,
     /// From its `SF:` line to its `end_of_record` or, without one, to the file's end.
     bytes: Range<usize>,
 }
@@ -230,9 +231,9 @@ impl Tracefile<'_> {
         read.map_err(|error| format!("{}: {error}", path.display()))
     }
 
-    /// Returns the sections, in the order of their indices. One opens at a line that
-    /// begins with `SF:` while none is open, and closes at the next line that is
-    /// exactly `end_of_record`.
+    /// Returns the sections in their order. One opens at a line that begins with `SF:`
+    /// while none is open, and closes at the next line that is exactly
+    /// `end_of_record`.
     fn sections(&self) -> Vec<Section<'_>> {
         let mut sections = Vec::new();
         let mut open: Option<Section> = None;
@@ -240,9 +241,9 @@ impl Tracefile<'_> {
         for line in self.bytes.split(is_line_end) {
             match &mut open {
                 None => {
-                    let (index, bytes) = (sections.len(), offset..self.bytes.len());
+                    let bytes = offset..self.bytes.len();
                     let name = line.strip_prefix(b"SF:");
-                    open = name.map(|name| Section { name, index, bytes });
+                    open = name.map(|name| Section { name, bytes });
                 }
                 Some(section) if line == b"end_of_record" => {
                     section.bytes.end = offset;
@@ -276,7 +277,7 @@ impl Tracefile<'_> {
         let (place, ground) = (refusal.place as usize, refusal.to_string());
         let start = self.line_at(section.bytes.start);
         let (line, words) = match refusal.number {
-            Refusal::BAD_RECORD => (self.line_at(place), BAD_RECORD),
+            Refusal::BAD_RECORD => (self.line_at(section.bytes.start + place), BAD_RECORD),
             Refusal::NOT_RISING => (start + self.lines_before_hit(section, place), NOT_RISING),
             Refusal::NO_SECTION => (start, NO_END),
             _ => (start, &ground[..]),

@@ -1,6 +1,6 @@
 -- `turns` looks for an end in a section and for an opening elsewhere. Assumes nothing.
 use borrow.Author.Needs.{needs}
-use mathlib.Core.Path.{_≡_, sym, ap, _∙_}
+use mathlib.Core.Path.{sym, ap, _∙_}
 use Rattle.lcov_find.specs.Places.{turns}
 use Rattle.lcov_find.proofs.turns.Statement.{statement}
 use Rattle.lcov_find.proofs.turns.Tie as tie

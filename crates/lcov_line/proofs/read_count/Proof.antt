@@ -1,7 +1,6 @@
 -- `read_count` gives the record by the digits of its count. Assumes nothing.
-use Prim.Native.Nat.{_<_, _≤_}
 use borrow.Author.Needs.{needs}
-use lib.ListN.{length, getD, take}
+use lib.ListN.{take}
 use mathlib.Core.Logic.{_⊎_, inl, inr, ⊎-elim}
 use mathlib.Core.Option.{some}
 use mathlib.Core.Path.{_≡_, sym, ap, _∙_}

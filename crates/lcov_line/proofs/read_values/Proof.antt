@@ -1,9 +1,9 @@
 -- `read_values` gives the record that follows `DA:`. Assumes nothing.
 use Prim.Native.Nat.{_+_, _<_}
 use borrow.Author.Needs.{needs}
-use lib.ListN.{length, take, drop}
+use lib.ListN.{length}
 use mathlib.Core.Option.{some}
-use mathlib.Core.Path.{_≡_, sym, ap, _∙_}
+use mathlib.Core.Path.{sym, ap, _∙_}
 use native.Mathlib.Omega.{arith}
 use Rattle.model.specs.Runs.{pastBin}
 use Rattle.lcov_form.specs.Form.{counted}

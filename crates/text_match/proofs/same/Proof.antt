@@ -1,6 +1,6 @@
 -- `same` compares the lengths and then the bytes. Assumes nothing.
 use borrow.Author.Needs.{needs}
-use mathlib.Core.Path.{_≡_, sym, _∙_}
+use mathlib.Core.Path.{sym, _∙_}
 use Rattle.text_match.proofs.Matches.{same-not, same-begins}
 use Rattle.text_match.proofs.same.Statement.{statement}
 use Rattle.text_match.proofs.same.Tie as tie

@@ -1,7 +1,6 @@
 -- `read_word` gives the number that a word is. Assumes nothing.
 use borrow.Author.Needs.{needs}
 use mathlib.Core.Path.{sym}
-use native.Mathlib.Omega.{arith}
 use Rattle.model.specs.Runs.{pastBin}
 use Rattle.text_read.proofs.Values.{number-empty, number-not, number-large, number-small}
 use Rattle.text_read.proofs.read_word.Statement.{statement}
