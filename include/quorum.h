@@ -434,9 +434,9 @@ void quorum_probe_bound_chosen(const uint32_t *ends, size_t ends_len,
  * the next line that is exactly end_of_record; `section` is its index from 0.
  * Other sections, other records and a third value on a DA: line are passed over,
  * and the file is not read past the section's end. Lines end with byte 10, which
- * the last may lack. Byte 13 is a byte like any other, so files whose lines end
- * with both have no section that closes. Leading zeros are allowed, and a count
- * may have any number of digits.
+ * the last may lack. Byte 13 is a byte like any other, so end_of_record followed
+ * by it closes nothing. Leading zeros are allowed, and a count may have any number
+ * of digits.
  *
  * `result` receives refusal and place, and the count of numbers written, refused
  * or not. What was written stands; later places of `run` are unchanged, also of an

@@ -111,6 +111,8 @@ fails 1 '65 tracefiles are more than a question takes, 64' 1 src/frame.c "$@" "$
 awk 'BEGIN { for (i = 1; i <= 1048576; i++) print i, 1 }' >"$work/counted"
 { echo SF:a && sed 's/^/DA:/; s/ /,/' "$work/counted" && echo end_of_record; } >"$work/most.info"
 expect 0 "$work/counted" /dev/null 1 a "$work/most.info"
+cat "$work/most.info" "$work/most.info" >"$work/twice.info"
+expect 0 "$work/counted" /dev/null 1 a "$work/twice.info"
 printf 'SF:a\nDA:1,1\nend_of_record\n' >"$work/one.info"
 fails 1 '1048577 lines hit in all are more than a question takes, 1048576' 1 a "$work/most.info" "$work/one.info"
 

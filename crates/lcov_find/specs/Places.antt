@@ -14,6 +14,6 @@ unfoldable pub sectionAt : List ℕ → ℕ → Section
 sectionAt file at = section (linesAt file at)
 
 -- a line closes the section that is open or, if none is, opens one
-unfoldable pub turns : Bool → List ℕ → Bool
-turns true text = closes text
-turns false text = opens text
+unfoldable pub opensOrCloses : Bool → List ℕ → Bool
+opensOrCloses true text = closes text
+opensOrCloses false text = opens text

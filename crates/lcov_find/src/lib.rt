@@ -1,11 +1,11 @@
 // A section of an LCOV tracefile, found by its index.
 ghost use mathlib.Core.Path.{_≡_};
 ghost use Rattle.lcov_form.specs.Reading.{sectionOf};
-ghost use Rattle.lcov_find.specs.Places.{sectionAt, turns};
+ghost use Rattle.lcov_find.specs.Places.{opensOrCloses, sectionAt};
 
 // Whether a line closes the section that is open or, if none is, opens one.
-fn turns(line: &[u8], inside: bool) -> bool
-    ensures { λ r. ⌜ r ≡ turns inside (now (line .entry)) ⌝ }
+fn opens_or_closes(line: &[u8], inside: bool) -> bool
+    ensures { λ r. ⌜ r ≡ opensOrCloses inside (now (line .entry)) ⌝ }
 {
     if inside {
         return lcov_line::closes(line);
@@ -23,7 +23,7 @@ pub fn find_section(file: &[u8], index: usize) -> usize
     while at <= file.len() {
         let end = at + text_read::first_of(&file[at..], 10);
         let next = end + 1;
-        if turns(&file[at..end], inside) {
+        if opens_or_closes(&file[at..end], inside) {
             if inside {
                 inside = false;
             } else {

@@ -48,7 +48,7 @@ listed =
     reads listing 4 5 (refusal 16 145) [] ∷
     []
 
--- Records of every form, alone in a section that begins at offset 5.
+-- Records of every form, alone in a section: the first of them stands at offset 5.
 unfoldable pub records : List Instance
 records =
     alone [] 0 passed [] ∷

@@ -1,6 +1,7 @@
 -- The decimal value of a word, digit by digit. Assumes nothing.
 use Prim.Native.Nat.{ℕ, suc, _+_, _-_, _*_, _≤_, _<_}
-use borrow.Author.Tests.{le-leb, lt-leb}
+use borrow.Author.Tests.{le-leb, lt-leb, leb-true}
+use lib.Dec.{leb}
 use lib.ListN.{length, getD, take, drop, length-take, drop-of-length-le}
 use lib.Seq.{drop-cons, take-all}
 use mathlib.Core.Bool.{true, false}
@@ -10,45 +11,37 @@ use mathlib.Core.Option.{none, some}
 use mathlib.Core.Path.{_≡_, refl, sym, ap, _∙_}
 use native.Mathlib.Numerals.{add-one}
 use native.Mathlib.Omega.{arith}
-use Rattle.model.proofs.Tests.{both, lt-or-le}
+use Rattle.model.proofs.Tests.{and-true, both, lt-or-le}
 use Rattle.model.specs.Runs.{lastBin, pastBin}
 use Rattle.text_read.specs.declared.Digits.{Digits}
 use Rattle.text_read.specs.Numbers.{isDigit, allDigits, decimalValue, value, number, digitCount, leadingValue, cutDown, Leads}
 
 -- ---- a byte
 
-digit-below : (b : ℕ) → b < 48 → isDigit b ≡ false
+pub digit-below : (b : ℕ) → b < 48 → isDigit b ≡ false
 unfolding isDigit
 digit-below b h = rw (lt-leb 48 b h, isDigit)
 
-digit-above : (b : ℕ) → 48 ≤ b → 57 < b → isDigit b ≡ false
+pub digit-from : (b : ℕ) → 48 ≤ b → isDigit b ≡ leb b 57
 unfolding isDigit
-digit-above b h k = rw (le-leb 48 b h, lt-leb b 57 k, isDigit)
+digit-from b h = rw (le-leb 48 b h, isDigit)
 
-digit-is : (b : ℕ) → 48 ≤ b → b ≤ 57 → isDigit b ≡ true
+pub digit-within : (b : ℕ) → isDigit b ≡ true → (48 ≤ b) × (b ≤ 57)
 unfolding isDigit
-digit-is b h k = rw (le-leb 48 b h, le-leb b 57 k, isDigit)
+digit-within b e = let w = and-true (leb 48 b) (leb b 57) e in (leb-true 48 b (w .0), leb-true b 57 (w .1))
 
 -- ---- the digits that a text begins with, from a place on
 
 module _ (n : ℕ) (text : List ℕ) (i : ℕ) where
-  module _ (h : i < length text) where
-    stops : isDigit (getD text i 0) ≡ false → (digitCount (drop i text) ≡ 0) × (leadingValue n (drop i text) ≡ n)
-    unfolding digitCount leadingValue
-    stops e = (rw (drop-cons text i 0 h) (rw (e, digitCount)), rw (drop-cons text i 0 h) (rw (e, leadingValue)))
+  pub digits-stop : i < length text → isDigit (getD text i 0) ≡ false → (digitCount (drop i text) ≡ 0) × (leadingValue n (drop i text) ≡ n)
+  unfolding digitCount leadingValue
+  digits-stop h e = (rw (drop-cons text i 0 h) (rw (e, digitCount)), rw (drop-cons text i 0 h) (rw (e, leadingValue)))
 
-    pub stops-below : getD text i 0 < 48 → (digitCount (drop i text) ≡ 0) × (leadingValue n (drop i text) ≡ n)
-    stops-below l = stops (digit-below (getD text i 0) l)
-
-    pub stops-above : 48 ≤ getD text i 0 → 57 < getD text i 0 → (digitCount (drop i text) ≡ 0) × (leadingValue n (drop i text) ≡ n)
-    stops-above k l = stops (digit-above (getD text i 0) k l)
-
-    pub goes-on : 48 ≤ getD text i 0 → getD text i 0 ≤ 57
-        → (digitCount (drop i text) ≡ suc (digitCount (drop (i + 1) text))) × (leadingValue n (drop i text) ≡ leadingValue (n * 10 + (getD text i 0 - 48)) (drop (i + 1) text))
-    unfolding digitCount leadingValue
-    goes-on k l =
-        let e = digit-is (getD text i 0) k l in
-        (rw (drop-cons text i 0 h, add-one i) (rw (e, digitCount)), rw (drop-cons text i 0 h, add-one i) (rw (e, leadingValue)))
+  pub digits-on : i < length text → isDigit (getD text i 0) ≡ true
+      → (digitCount (drop i text) ≡ suc (digitCount (drop (i + 1) text))) × (leadingValue n (drop i text) ≡ leadingValue (n * 10 + (getD text i 0 - 48)) (drop (i + 1) text))
+  unfolding digitCount leadingValue
+  digits-on h e =
+      (rw (drop-cons text i 0 h, add-one i) (rw (e, digitCount)), rw (drop-cons text i 0 h, add-one i) (rw (e, leadingValue)))
 
   pub digits-end : length text ≤ i → (digitCount (drop i text) ≡ 0) × (leadingValue n (drop i text) ≡ n)
   unfolding digitCount leadingValue
@@ -71,12 +64,9 @@ pub cut-large : (n : ℕ) → lastBin < n → cutDown n ≡ pastBin
 unfolding cutDown
 cut-large n h = rw (lt-leb n lastBin h, cutDown)
 
--- a value that is too large may be any such
-pub cut-any : (n m : ℕ) (text : List ℕ) → lastBin < n → lastBin < m → cutDown (leadingValue n text) ≡ cutDown (leadingValue m text)
-cut-any n m text h k =
-    let g = value-grows n text in
-    let f = value-grows m text in
-    cut-large (leadingValue n text) (omega arith) ∙ sym (cut-large (leadingValue m text) (omega arith))
+-- a value that is too large stays so
+pub cut-from : (n : ℕ) (text : List ℕ) → lastBin < n → cutDown (leadingValue n text) ≡ pastBin
+cut-from n text h = let g = value-grows n text in cut-large (leadingValue n text) (omega arith)
 
 -- ---- a word
 

@@ -1,7 +1,9 @@
 // Text as bytes, read: the pieces between separators, and a piece as a decimal number.
 ghost use mathlib.Core.Path.{_≡_};
+ghost use Prim.Native.Nat.{_+_};
+ghost use lib.ListN.{drop};
 ghost use Rattle.text_read.specs.Pieces.{until};
-ghost use Rattle.text_read.specs.Numbers.{Leads, number, wordIs};
+ghost use Rattle.text_read.specs.Numbers.{Leads, digitCount, isDigit, number, wordIs};
 
 // The digits that a text begins with: how many, and their value or, if it is above 4294967295, the next number.
 pub struct Digits {
@@ -28,7 +30,30 @@ pub fn first_of(bytes: &[u8], separator: u8) -> usize
     bytes.len()
 }
 
-// The digits that a text begins with. A value above 4294967295 is cut down after each digit, so it never exceeds 42949672969.
+fn is_digit(b: u8) -> bool
+    ensures { λ r. ⌜ r ≡ isDigit b ⌝ }
+{
+    if b < 48 {
+        return false;
+    }
+    b <= 57
+}
+
+// The place after the digits from a place on.
+fn digits_from(text: &[u8], from: usize) -> usize
+    ensures { λ r. ⌜ r ≡ from + digitCount (drop from (now (text .entry))) ⌝ }
+{
+    let mut i = from;
+    while i < text.len() {
+        if !is_digit(text[i]) {
+            return i;
+        }
+        i += 1;
+    }
+    i
+}
+
+// The digits that a text begins with. Once their value is above 4294967295, the others are only counted.
 pub fn leading_digits(text: &[u8]) -> Digits
     ensures { λ r. ⌜ Leads (now (text .entry)) r ⌝ }
 {
@@ -36,23 +61,20 @@ pub fn leading_digits(text: &[u8]) -> Digits
     let mut i: usize = 0;
     while i < text.len() {
         let b = text[i];
-        if b < 48 {
-            return Digits {
-                count: i,
-                value: value,
-            };
-        }
-        if 57 < b {
+        if !is_digit(b) {
             return Digits {
                 count: i,
                 value: value,
             };
         }
         value = value * 10 + arith::u64_of_u8(b - 48);
-        if limits::PAST_BIN < value {
-            value = limits::PAST_BIN;
-        }
         i += 1;
+        if limits::PAST_BIN <= value {
+            return Digits {
+                count: digits_from(text, i),
+                value: limits::PAST_BIN,
+            };
+        }
     }
     Digits {
         count: i,

@@ -1,96 +1,98 @@
-//! The library's way through a tracefile in Rust: one pass, a line at a time,
+//! The library's own way through a tracefile in Rust: one pass, a line at a time,
 //! and nothing is copied but the numbers.
 
 use quorum::{Refusal, StoppedRun};
 
-/// What is done with a line.
-enum State {
-    /// No section is open.
-    Outside,
-    /// A section is open that is passed over.
-    Passing,
-    /// The section is open that was asked for.
-    Reading,
-}
-
 /// Reads one section of a tracefile as one run, as [`quorum::lcov_run`] does.
 pub fn lcov_run(file: &[u8], section: usize, run: &mut [u32]) -> Result<usize, StoppedRun> {
-    let (mut state, mut before) = (State::Outside, section);
-    let (mut offset, mut written) = (0, 0);
-    for line in file.split(|&byte| byte == b'\n') {
-        match state {
-            State::Outside if !line.starts_with(b"SF:") => {}
-            State::Outside if before == 0 => state = State::Reading,
-            State::Outside => {
-                before -= 1;
-                state = State::Passing;
+    read_section(file, find_section(file, section), run)
+}
+
+/// Where the lines of a section begin, or past the end of a file without it.
+fn find_section(file: &[u8], section: usize) -> usize {
+    let (mut at, mut before, mut inside) = (0, section, false);
+    while at <= file.len() {
+        let line = line_at(file, at);
+        at += line.len() + 1;
+        if inside {
+            inside = line != b"end_of_record";
+        } else if line.starts_with(b"SF:") {
+            if before == 0 {
+                return at;
             }
-            State::Passing => {
-                if line == b"end_of_record" {
-                    state = State::Outside;
+            before -= 1;
+            inside = true;
+        }
+    }
+    at
+}
+
+/// Reads the section whose lines begin at a place.
+fn read_section(file: &[u8], start: usize, run: &mut [u32]) -> Result<usize, StoppedRun> {
+    let (mut at, mut written, mut last) = (start, 0, 0);
+    while at <= file.len() {
+        let line = line_at(file, at);
+        if line == b"end_of_record" {
+            return Ok(written);
+        }
+        if let Some(values) = line.strip_prefix(b"DA:") {
+            let Some((number, is_hit)) = read_record(values) else {
+                return Err(stopped(Refusal::BAD_RECORD, at, written));
+            };
+            if is_hit {
+                if number <= last {
+                    return Err(stopped(Refusal::NOT_RISING, written, written));
                 }
-            }
-            State::Reading => {
-                if let Some(values) = line.strip_prefix(b"DA:") {
-                    append(values, offset, run, &mut written)?;
-                } else if line == b"end_of_record" {
-                    return Ok(written);
-                }
+                let Some(place) = run.get_mut(written) else {
+                    return Err(stopped(Refusal::ANSWERS_FULL, written, written));
+                };
+                *place = number;
+                written += 1;
+                last = number;
             }
         }
-        offset += line.len() + 1;
+        at += line.len() + 1;
     }
     Err(stopped(Refusal::NO_SECTION, file.len(), written))
 }
 
-/// Writes the number of a record, if its count is above 0.
-fn append(
-    values: &[u8],
-    offset: usize,
-    run: &mut [u32],
-    written: &mut usize,
-) -> Result<(), StoppedRun> {
-    let Some((number, is_hit)) = read_record(values) else {
-        return Err(stopped(Refusal::BAD_RECORD, offset, *written));
-    };
-    if !is_hit {
-        return Ok(());
-    }
-    if *written > 0 && number <= run[*written - 1] {
-        return Err(stopped(Refusal::NOT_RISING, *written, *written));
-    }
-    let Some(place) = run.get_mut(*written) else {
-        return Err(stopped(Refusal::ANSWERS_FULL, *written, *written));
-    };
-    *place = number;
-    *written += 1;
-    Ok(())
+/// The line that begins at a place, without its end.
+fn line_at(file: &[u8], at: usize) -> &[u8] {
+    let rest = &file[at..];
+    let end = rest.iter().position(|&byte| byte == b'\n');
+    &rest[..end.unwrap_or(rest.len())]
 }
 
 /// The number of a record, and whether its count is above 0.
 fn read_record(values: &[u8]) -> Option<(u32, bool)> {
-    let mut bytes = values.iter();
-    let mut number = 0_u64;
-    loop {
-        match bytes.next()? {
-            digit @ b'0'..=b'9' => number = 10 * number + u64::from(digit - b'0'),
-            b',' if number > 0 => break,
-            _ => return None,
+    let (digits, number) = leading_digits(values);
+    let (b',', count) = values[digits..].split_first()? else {
+        return None;
+    };
+    let number = u32::try_from(number).ok().filter(|&number| number > 0)?;
+    let (digits, value) = leading_digits(count);
+    if digits == 0 || count.get(digits).is_some_and(|&byte| byte != b',') {
+        return None;
+    }
+    Some((number, value > 0))
+}
+
+/// How many digits a text begins with, and their value or, if it has more than 32
+/// bits, one that has.
+fn leading_digits(text: &[u8]) -> (usize, u64) {
+    let mut value = 0;
+    for (i, byte) in text.iter().enumerate() {
+        if !byte.is_ascii_digit() {
+            return (i, value);
         }
-        if number > u64::from(u32::MAX) {
-            return None;
+        value = 10 * value + u64::from(byte - b'0');
+        if value > u64::from(u32::MAX) {
+            let others = text[i + 1..].iter();
+            let count = others.take_while(|byte| byte.is_ascii_digit()).count();
+            return (i + 1 + count, value);
         }
     }
-    let (mut has_digits, mut is_hit) = (false, false);
-    for byte in bytes {
-        match byte {
-            b'0'..=b'9' => is_hit |= *byte != b'0',
-            b',' if has_digits => break,
-            _ => return None,
-        }
-        has_digits = true;
-    }
-    has_digits.then_some((number as u32, is_hit))
+    (text.len(), value)
 }
 
 fn stopped(number: u64, place: usize, written: usize) -> StoppedRun {

@@ -115,22 +115,19 @@ impl Runs {
     fn add(&mut self, tracefile: &Tracefile, source: &OsStr) -> Result<(), String> {
         let sections = tracefile.sections();
         let is_named = |section: &&Section| section.name == source.as_bytes();
-        let mut named = sections.iter().filter(is_named);
-        let Some(first) = named.next() else {
+        let named: Vec<&Section> = sections.iter().filter(is_named).collect();
+        if named.is_empty() {
             return Err(tracefile.tell_names(&sections, source));
-        };
+        }
         let start = self.numbers.len();
-        self.read(tracefile, first)?;
-        for section in named {
-            // What a run or a section has is what a threshold of 1 asks for.
-            let mut both = Runs::default();
-            both.numbers.extend(self.numbers.drain(start..));
-            both.end_run();
-            both.read(tracefile, section)?;
-            both.end_run();
-            let joined = both.ask(1);
-            let joined = joined.map_err(|refusal| tracefile.fault(&both.tell(refusal)))?;
-            self.numbers.extend(joined.iter().map(Part::first));
+        for section in &named {
+            self.read(tracefile, section)?;
+        }
+        if named.len() > 1 {
+            let mut lines = self.numbers.split_off(start);
+            lines.sort_unstable();
+            lines.dedup();
+            self.numbers.append(&mut lines);
         }
         self.end_run();
         Ok(())

@@ -12,8 +12,8 @@ use std::fmt;
 /// at the next line that is exactly `end_of_record`; `section` is its index from 0.
 /// Other sections, other records and a third value on a `DA:` line are passed
 /// over, and the file is not read past the section's end. Lines end with byte 10,
-/// which the last may lack. Byte 13 is a byte like any other, so files whose lines
-/// end with both have no section that closes.
+/// which the last may lack. Byte 13 is a byte like any other, so `end_of_record`
+/// followed by it closes nothing.
 ///
 /// Places of `run` after what was written are unchanged, also of an accepted call.
 ///

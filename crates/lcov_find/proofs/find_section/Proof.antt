@@ -34,7 +34,7 @@ part-first-of-end c = search needs
 first-of-requires : tie.Need-first-of-requires Inv-loop μ-loop
 first-of-requires c κs = search needs
 
--- the loop of a place in a turn, the file, and the line's place in it
+-- the loop of a place in a pass, the file, and the line's place in it
 abbrev loop-of : tie.After-first-of Inv-loop μ-loop → tie.At-loop Inv-loop μ-loop
 loop-of f = f .before .before .before
 
@@ -50,23 +50,23 @@ add-end c = let h = line-ends (line-of c) in omega (arith, h)
 add-next : tie.Need-add-next Inv-loop μ-loop
 add-next c = let h = line-ends (line-of c) in omega (arith, h)
 
-sub-turns : tie.Need-sub-turns Inv-loop μ-loop
-sub-turns c = search needs
+sub-opens-or-closes : tie.Need-sub-opens-or-closes Inv-loop μ-loop
+sub-opens-or-closes c = search needs
 
-part-turns-start : tie.Need-part-turns-start Inv-loop μ-loop
-part-turns-start c = search needs
+part-opens-or-closes-start : tie.Need-part-opens-or-closes-start Inv-loop μ-loop
+part-opens-or-closes-start c = search needs
 
-part-turns-end : tie.Need-part-turns-end Inv-loop μ-loop
-part-turns-end c = let h = line-ends (line-of c) in omega (arith, h)
+part-opens-or-closes-end : tie.Need-part-opens-or-closes-end Inv-loop μ-loop
+part-opens-or-closes-end c = let h = line-ends (line-of c) in omega (arith, h)
 
-turns-requires : tie.Need-turns-requires Inv-loop μ-loop
-turns-requires c κs = search needs
+opens-or-closes-requires : tie.Need-opens-or-closes-requires Inv-loop μ-loop
+opens-or-closes-requires c κs = search needs
 
 returns : tie.Need-returns Inv-loop μ-loop
 returns c =
     let f = c .before .before .before .before .before in
     let l = loop-of f .loop in
-    sym (left-found (line-of f) (l .inside) (l .left) (c .before .if2 .left) (c .if3 .taken) (sym (c .before .before .before .turns .ensures) ∙ c .before .before .if1 .taken))
+    sym (left-found (line-of f) (l .inside) (l .left) (c .before .if2 .left) (c .if3 .taken) (sym (c .before .before .before .opens-or-closes .ensures) ∙ c .before .before .if1 .taken))
     ∙ l .inv .1
 
 sub-left : tie.Need-sub-left Inv-loop μ-loop
@@ -81,7 +81,7 @@ loop-again c =
     let l = loop-of f .loop in
     let h = line-ends (line-of f) in (
       omega (arith, h),
-      sym (left-closed (line-of f) (l .inside) (l .left) (c .if2 .taken) (sym (c .before .before .turns .ensures) ∙ c .before .if1 .taken)) ∙ l .inv .1,
+      sym (left-closed (line-of f) (l .inside) (l .left) (c .if2 .taken) (sym (c .before .before .opens-or-closes .ensures) ∙ c .before .if1 .taken)) ∙ l .inv .1,
     )
 
 loop-less-2 : tie.Need-loop-less-2 Inv-loop μ-loop
@@ -93,7 +93,7 @@ loop-again-2 c =
     let l = loop-of f .loop in
     let h = line-ends (line-of f) in (
       omega (arith, h),
-      sym (left-opened (line-of f) (l .inside) (l .left) (c .before .if2 .left) (c .if3 .left) (sym (c .before .before .before .turns .ensures) ∙ c .before .before .if1 .taken))
+      sym (left-opened (line-of f) (l .inside) (l .left) (c .before .if2 .left) (c .if3 .left) (sym (c .before .before .before .opens-or-closes .ensures) ∙ c .before .before .if1 .taken))
           ∙ l .inv .1,
     )
 
@@ -105,7 +105,7 @@ loop-again-3 c =
     let f = c .before .before .before in
     let l = loop-of f .loop in
     let h = line-ends (line-of f) in
-    (omega (arith, h), sym (left-passed (line-of f) (l .inside) (l .left) (sym (c .before .turns .ensures) ∙ c .if1 .left)) ∙ l .inv .1)
+    (omega (arith, h), sym (left-passed (line-of f) (l .inside) (l .left) (sym (c .before .opens-or-closes .ensures) ∙ c .if1 .left)) ∙ l .inv .1)
 
 returns-2 : tie.Need-returns-2 Inv-loop μ-loop
 returns-2 c = let l = c .before .loop in left-end (c .before .before .before .args .file .now) (l .at) (l .inside) (l .left) (c .loop-test .left) ∙ l .inv .1
@@ -123,10 +123,10 @@ find-section-spec =
     first-of-requires
     add-end
     add-next
-    sub-turns
-    part-turns-start
-    part-turns-end
-    turns-requires
+    sub-opens-or-closes
+    part-opens-or-closes-start
+    part-opens-or-closes-end
+    opens-or-closes-requires
     returns
     sub-left
     loop-less

@@ -1,7 +1,7 @@
 -- `read_count` gives the record by the digits of its count. Assumes nothing.
 use borrow.Author.Needs.{needs}
 use lib.ListN.{take}
-use mathlib.Core.Logic.{_⊎_, inl, inr, ⊎-elim}
+use mathlib.Core.Logic.{inl, inr, ⊎-elim}
 use mathlib.Core.Option.{some}
 use mathlib.Core.Path.{_≡_, sym, ap, _∙_}
 use Rattle.lcov_form.specs.Form.{counted}

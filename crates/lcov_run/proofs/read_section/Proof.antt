@@ -37,7 +37,7 @@ part-first-of-end c = search needs
 first-of-requires : tie.Need-first-of-requires Inv-loop μ-loop
 first-of-requires c κs = search needs
 
--- the loop and the line of a place in a turn, and the line's place in the file
+-- the loop of a place in a pass, the file, the row as it was lent, and the line's place in the file
 abbrev loop-of : tie.After-first-of Inv-loop μ-loop → tie.At-loop Inv-loop μ-loop
 loop-of f = f .before .before .before
 
