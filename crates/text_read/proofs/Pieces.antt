@@ -26,6 +26,17 @@ module _ (s : ℕ) (l : List ℕ) (i : ℕ) where
   unfolding until
   until-end h = rw (drop-of-length-le l h)
 
+-- the place of the first separator, if it was not met before a place
+module _ (s : ℕ) (l : List ℕ) (i : ℕ) (e : until s l ≡ i + until s (drop i l)) (h : i < length l) where
+  pub met-here : getD l i 0 ≡ s → i ≡ until s l
+  met-here t = let z = until-at s l i h t in omega (arith, e, z)
+
+  pub not-here : (j : ℕ) → j ≡ i + 1 → getD l i 0 ≢ s → until s l ≡ j + until s (drop j l)
+  not-here j k t =
+      let z = until-on s l i h t in
+      let q : until s (drop (i + 1) l) ≡ until s (drop j l) = ap (λ n. until s (drop n l)) (sym k) in
+      omega (arith, e, z, q, k)
+
 pub until-le : (s : ℕ) (l : List ℕ) → until s l ≤ length l
 unfolding until
 until-le s [] = omega arith

@@ -1,7 +1,7 @@
 // Text as bytes, read: the pieces between separators, and a piece as a decimal number.
 ghost use mathlib.Core.Path.{_≡_};
-ghost use Prim.Native.Nat.{_+_};
-ghost use lib.ListN.{drop};
+ghost use Prim.Native.Nat.{_+_, _≤_};
+ghost use lib.ListN.{length, drop};
 ghost use Rattle.text_read.specs.Pieces.{until};
 ghost use Rattle.text_read.specs.Numbers.{Leads, digitCount, isDigit, number, wordIs};
 
@@ -16,11 +16,12 @@ pub enum Word {
     NoNumber,
 }
 
-// The place of the first separator, or the length.
-pub fn first_of(bytes: &[u8], separator: u8) -> usize
-    ensures { λ r. ⌜ r ≡ until separator (now (bytes .entry)) ⌝ }
+// The place of the first separator from a place on, or the length.
+fn first_from(bytes: &[u8], from: usize, separator: u8) -> usize
+    requires { ⌜ from ≤ length (now bytes) ⌝ }
+    ensures { λ r. ⌜ r ≡ from + until separator (drop from (now (bytes .entry))) ⌝ }
 {
-    let mut i: usize = 0;
+    let mut i = from;
     while i < bytes.len() {
         if bytes[i] == separator {
             return i;
@@ -28,6 +29,29 @@ pub fn first_of(bytes: &[u8], separator: u8) -> usize
         i += 1;
     }
     bytes.len()
+}
+
+// The place of the first separator, or the length. Four bytes at a time, with one test for the end.
+pub fn first_of(bytes: &[u8], separator: u8) -> usize
+    ensures { λ r. ⌜ r ≡ until separator (now (bytes .entry)) ⌝ }
+{
+    let mut i: usize = 0;
+    while 4 <= bytes.len() - i {
+        if bytes[i] == separator {
+            return i;
+        }
+        if bytes[i + 1] == separator {
+            return i + 1;
+        }
+        if bytes[i + 2] == separator {
+            return i + 2;
+        }
+        if bytes[i + 3] == separator {
+            return i + 3;
+        }
+        i += 4;
+    }
+    first_from(bytes, i, separator)
 }
 
 fn is_digit(b: u8) -> bool
