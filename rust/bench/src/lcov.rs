@@ -1,5 +1,5 @@
 //! The library's own way through a tracefile in Rust: one pass, a line at a time,
-//! and nothing is copied but the numbers.
+//! and nothing is copied but the numbers. The standard library finds the line ends.
 
 use quorum::{Refusal, StoppedRun};
 
