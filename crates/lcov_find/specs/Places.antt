@@ -1,8 +1,7 @@
 -- Sections by the place where their lines begin. Definitions only.
 use Prim.Native.Nat.{ℕ}
-use mathlib.Core.Bool.{Bool, true, false}
 use mathlib.Core.List.{List}
-use Rattle.lcov_form.specs.Form.{Line, linesFrom, opens, closes, Section, section}
+use Rattle.lcov_form.specs.Form.{Line, linesFrom, Section, section}
 use Rattle.text_read.specs.Pieces.{pieces}
 
 -- the lines from a place on, none past the end
@@ -12,8 +11,3 @@ linesAt file at = linesFrom at (pieces 10 file at)
 -- the section whose lines begin at a place
 unfoldable pub sectionAt : List ℕ → ℕ → Section
 sectionAt file at = section (linesAt file at)
-
--- a line closes the section that is open or, if none is, opens one
-unfoldable pub opensOrCloses : Bool → List ℕ → Bool
-opensOrCloses true text = closes text
-opensOrCloses false text = opens text

@@ -1,17 +1,7 @@
 // A section of an LCOV tracefile, found by its index.
 ghost use mathlib.Core.Path.{_≡_};
 ghost use Rattle.lcov_form.specs.Reading.{sectionOf};
-ghost use Rattle.lcov_find.specs.Places.{opensOrCloses, sectionAt};
-
-// Whether a line closes the section that is open or, if none is, opens one.
-fn opens_or_closes(line: &[u8], inside: bool) -> bool
-    ensures { λ r. ⌜ r ≡ opensOrCloses inside (now (line .entry)) ⌝ }
-{
-    if inside {
-        return lcov_line::closes(line);
-    }
-    lcov_line::opens(line)
-}
+ghost use Rattle.lcov_find.specs.Places.{sectionAt};
 
 // Where the lines of the section with an index begin: after the line that opens it, or past the end of a file that has no such section. One pass.
 pub fn find_section(file: &[u8], index: usize) -> usize
@@ -23,10 +13,12 @@ pub fn find_section(file: &[u8], index: usize) -> usize
     while at <= file.len() {
         let end = at + text_read::first_of(&file[at..], 10);
         let next = end + 1;
-        if opens_or_closes(&file[at..end], inside) {
-            if inside {
+        if inside {
+            if lcov_line::closes(&file[at..end]) {
                 inside = false;
-            } else {
+            }
+        } else {
+            if lcov_line::opens(&file[at..end]) {
                 if left == 0 {
                     return next;
                 }

@@ -1,5 +1,6 @@
 pub mod Claims
 pub mod Instances
+pub mod Records
 pub mod Room
 pub mod Runs
 pub mod Steps

@@ -2,7 +2,7 @@
 -- Assumes nothing.
 use Prim.Native.Nat.{ℕ, zero, suc, _+_, _-_, _*_, _≤_, _<_}
 use lib.Dec.{eqb}
-use lib.ListN.{length, getD, take, drop, length-take, length-drop}
+use lib.ListN.{length, getD, drop, length-take, length-drop}
 use mathlib.Core.Bool.{Bool, true, false}
 use mathlib.Core.List.{List, [], _∷_}
 use mathlib.Core.Logic.{⊎-elim}
@@ -12,12 +12,12 @@ use native.Mathlib.Omega.{arith}
 use Rattle.model.proofs.Tests.{both, lt-or-le}
 use Rattle.text_match.proofs.Matches.{begins-long}
 use Rattle.text_match.specs.Match.{begins}
-use Rattle.text_read.proofs.Pieces.{until-le, split-last, split-more}
+use Rattle.text_read.proofs.Pieces.{until-le}
 use Rattle.text_read.specs.Numbers.{number, value}
 use Rattle.text_read.specs.Pieces.{onFirst, split, until}
-use Rattle.text_read.specs.Text.{bytes}
 use Rattle.lcov_form.specs.Form.{Line, linesFrom, lines, opens, closes, Section, unclosed, _andThen_, section, sections, Record, covered, malformed, passedOver, counted, values, recordOf}
 use Rattle.lcov_form.specs.Reading.{coveredIn, sectionOf}
+use Rattle.lcov_form.proofs.Records.{data-record, other-record, piece, one-value, two-values}
 use Rattle.lcov_form.proofs.Steps.{record-is}
 
 -- ---- a record that covers a line
@@ -42,31 +42,18 @@ two-words [] count e = not-covered e
 two-words (b ∷ line) [] e = no-count (number (b ∷ line)) e
 two-words (b ∷ line) (c ∷ count) e = (omega arith, omega arith)
 
--- the first piece of a text is no longer than the text
-first-piece : (s : ℕ) (l : List ℕ) → (piece : List ℕ) × ((rest : List (List ℕ)) × ((split s l ≡ piece ∷ rest) × (length piece ≤ length l)))
-first-piece s l =
-    let u = until-le s l in
-    ⊎-elim
-    (λ (h : until s l < length l). (take (until s l) l, (split s (drop (suc (until s l)) l), (split-more s l h, let t = length-take (until s l) l in omega arith))))
-    (λ (h : length l ≤ until s l). let q : until s l ≡ length l = omega arith in (l, ([], (split-last s l q, omega arith))))
-    (lt-or-le (until s l) (length l))
-
 values-long : (l : List ℕ) {x : ℕ} → values (split 44 l) ≡ covered x → 3 ≤ length l
-unfolding values
 values-long l e =
     let u = until-le 44 l in
     ⊎-elim
     (λ (h : until 44 l < length l).
-    let (piece, p) = first-piece 44 (drop (suc (until 44 l)) l) in
-    let (rest, q) = p in
-    let w = two-words (take (until 44 l) l) piece (sym (ap values (split-more 44 l h ∙ ap (take (until 44 l) l ∷_) (q .0))) ∙ e) in
+    let rest = drop (suc (until 44 l)) l in
+    let w = two-words (piece l) (piece rest) (sym (two-values l h) ∙ e) in
     let t = length-take (until 44 l) l in
+    let r = length-take (until 44 rest) rest in
     let d = length-drop (suc (until 44 l)) l in
-    let k = q .1 in
-    omega (arith, w, k))
-    (λ (h : length l ≤ until 44 l).
-    let q : until 44 l ≡ length l = omega arith in
-    not-covered (sym (ap values (split-last 44 l q)) ∙ e))
+    omega (arith, w, r))
+    (λ (h : length l ≤ until 44 l). let q : until 44 l ≡ length l = omega arith in not-covered (sym (one-value l q) ∙ e))
     (lt-or-le (until 44 l) (length l))
 
 passed-not : {A : Type 0} {x : ℕ} → passedOver ≡ covered x → A
@@ -74,15 +61,14 @@ unfolding covers
 passed-not e = let z = ap covers e in absurd (omega (arith, z))
 
 record-long : (text : List ℕ) {x : ℕ} → recordOf text ≡ covered x → 6 ≤ length text
-unfolding recordOf bytes
 record-long text e =
     ⊎-elim
     (λ (t : begins (68 ∷ 65 ∷ 58 ∷ []) text ≡ true).
     let l = begins-long (68 ∷ 65 ∷ 58 ∷ []) text t in
     let d = length-drop 3 text in
-    let v = values-long (drop 3 text) (rw (t, recordOf) at e) in
+    let v = values-long (drop 3 text) (sym (data-record text t) ∙ e) in
     omega (arith, l, v))
-    (λ (t : begins (68 ∷ 65 ∷ 58 ∷ []) text ≡ false). passed-not (rw (t, recordOf) at e))
+    (λ (t : begins (68 ∷ 65 ∷ 58 ∷ []) text ≡ false). passed-not (sym (other-record text t) ∙ e))
     (both (begins (68 ∷ 65 ∷ 58 ∷ []) text))
 
 -- ---- the bytes of lines, each with an end

@@ -1,15 +1,16 @@
 -- What holds of every run read: it fits the row, it rises, and it is the front of the section's covered lines, all of them where nothing is refused.
 -- Assumes nothing.
 use Prim.Native.Nat.{ℕ, suc, _+_, _≤_}
-use borrow.Author.Tests.{lt-ltb}
+use borrow.Author.Tests.{lt-ltb, le-ltb}
 use lib.ListN.{length, take}
-use mathlib.Core.List.{_∷_}
+use mathlib.Core.List.{List, [], _∷_}
 use mathlib.Core.Logic.{_≢_}
 use mathlib.Core.Option.{none}
 use mathlib.Core.Path.{_≡_, refl, sym, ap, _∙_}
 use native.Mathlib.Omega.{arith}
 use Rattle.model.specs.Refusals.{Check, passed, refusal}
-use Rattle.model.specs.Runs.{unrisenAfter}
+use Rattle.model.specs.Runs.{firstBin, from, unrisenAfter, unrisen}
+use Rattle.model.proofs.FirstChecks.{after-next}
 use Rattle.lcov_form.specs.Form.{Line, Section, _andThen_, covered, passedOver, recordOf}
 use Rattle.lcov_form.specs.Reading.{stop, write, readFrom, coveredIn}
 use Rattle.lcov_form.proofs.Steps.{by-lines}
@@ -85,6 +86,24 @@ run-rises size room =
     (λ n last line rest x e k i. refl)
     (λ n last line rest x e k f i. refl)
     (λ n last line rest x r e k f h i. rw (lt-ltb last x k, unrisenAfter) (h (suc i)))
+
+-- what rises after 0 rises from any place on, and is all bins
+after-any : (i j x : ℕ) (s : List ℕ) → unrisenAfter i x s ≡ none → unrisenAfter j x s ≡ none
+unfolding unrisenAfter
+after-any i j x [] e = refl
+after-any i j x (y ∷ s) e =
+    let n = after-next i x y s e in
+    rw (lt-ltb x y (n .0), unrisenAfter) (after-any (suc i) (suc j) y s (n .1))
+
+pub after-zero : (place : ℕ) (s : List ℕ) → unrisenAfter 0 0 s ≡ none → unrisen place s ≡ none
+unfolding unrisen
+after-zero place [] e = refl
+after-zero place (x ∷ s) e = after-any 1 place x s (after-next 0 0 x s e .1)
+
+pub all-bins : (s : List ℕ) → unrisenAfter 0 0 s ≡ none → from firstBin s ≡ s
+unfolding from firstBin
+all-bins [] e = refl
+all-bins (x ∷ s) e = let n = after-next 0 0 x s e .0 in rw (le-ltb x 1 (omega (arith, n)), from)
 
 -- a row with room for all covered lines is never too short
 pub run-room : (size room n last : ℕ) (s : Section) → n + length (coveredIn s) ≤ room → (place : ℕ) → readFrom size room n last s .check ≢ refusal 5 place

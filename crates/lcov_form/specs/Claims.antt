@@ -1,12 +1,12 @@
 -- What holds of every run read, whatever the file, the index and the row. Definitions only.
 use Prim.Native.Nat.{ℕ, suc, _*_, _≤_, _<_}
-use mathlib.Core.List.{List, _∷_}
+use mathlib.Core.List.{List}
 use mathlib.Core.Logic.{_≢_}
 use mathlib.Core.Option.{none}
 use mathlib.Core.Path.{_≡_}
 use lib.ListN.{length, take, drop}
 use Rattle.model.specs.Refusals.{passed, refusal}
-use Rattle.model.specs.Runs.{unrisen}
+use Rattle.model.specs.Runs.{firstBin, from, unrisen}
 use Rattle.lcov_form.specs.Reading.{coveredIn, sectionOf, lcovRun}
 
 pub record RunRead (file : List ℕ) (index : ℕ) (row : List ℕ) : Type 0 where
@@ -16,7 +16,8 @@ pub record RunRead (file : List ℕ) (index : ℕ) (row : List ℕ) : Type 0 whe
   -- They are the first of the line numbers of the `DA:` records whose count is above 0, in the order met, and all of them if nothing is refused.
   pub front : take (lcovRun file index row .count) (lcovRun file index row .row) ≡ take (lcovRun file index row .count) (coveredIn (sectionOf file index))
   pub whole : lcovRun file index row .check ≡ passed → take (lcovRun file index row .count) (lcovRun file index row .row) ≡ coveredIn (sectionOf file index)
-  -- Each is at least 1 and above the one before, so a question does not refuse them as 4.
-  pub rises : unrisen 0 (0 ∷ take (lcovRun file index row .count) (lcovRun file index row .row)) ≡ none
+  -- Wherever they stand among the numbers of a question, it does not refuse them as 4, and all of them are bins.
+  pub rises : (place : ℕ) → unrisen place (take (lcovRun file index row .count) (lcovRun file index row .row)) ≡ none
+  pub bins : from firstBin (take (lcovRun file index row .count) (lcovRun file index row .row)) ≡ take (lcovRun file index row .count) (lcovRun file index row .row)
   -- A row of a seventh of the file's length, rounded down, is never too short.
   pub enough : length file < 7 * suc (length row) → (place : ℕ) → lcovRun file index row .check ≢ refusal 5 place

@@ -2,23 +2,21 @@
 use Prim.Native.Nat.{ℕ, suc, _+_, _≤_, _<_}
 use borrow.Author.Tests.{ne-eqb}
 use lib.ListN.{length, getD, take, drop}
-use lib.Seq.{take-all}
-use mathlib.Core.Bool.{true, false}
-use mathlib.Core.List.{List, [], _∷_}
+use mathlib.Core.Bool.{false}
+use mathlib.Core.List.{List, []}
 use mathlib.Core.Logic.{_⊎_, inl, inr, ⊎-elim, _≢_}
 use mathlib.Core.Option.{Option, none, some}
 use mathlib.Core.Path.{_≡_, refl, sym, ap, _∙_}
 use native.Mathlib.Omega.{arith}
 use Rattle.model.proofs.Tests.{eq-or-ne, lt-or-le}
 use Rattle.model.specs.Runs.{pastBin}
-use Rattle.lcov_form.specs.Form.{covered, malformed, passedOver, counted, values, recordOf}
-use Rattle.text_match.specs.Match.{begins}
+use Rattle.lcov_form.specs.Form.{covered, malformed, passedOver, counted, values}
+use Rattle.lcov_form.proofs.Records.{piece, one-value, two-values}
 use Rattle.text_read.specs.declared.Digits.{Digits}
 use Rattle.text_read.specs.Numbers.{isDigit, value, number, digitCount, Leads}
 use Rattle.text_read.specs.Pieces.{split, until}
-use Rattle.text_read.specs.Text.{bytes}
 use Rattle.text_read.proofs.FirstDigits.{piece-all, piece-digits, piece-other}
-use Rattle.text_read.proofs.Pieces.{until-le, split-last, split-more}
+use Rattle.text_read.proofs.Pieces.{until-le}
 use Rattle.text_read.proofs.Values.{count-le, value-empty, value-not, some-digits, leading-large, leading-small}
 
 comma : isDigit 44 ≡ false
@@ -49,9 +47,6 @@ unfolding counted
 no-line o = refl
 
 -- ---- the piece up to the first comma
-
-abbrev pub piece : List ℕ → List ℕ
-piece text = take (until 44 text) text
 
 module _ (text : List ℕ) (digits : Digits) (d : Leads text digits) where
   at-count : (n : ℕ) → getD text (digits .count) 0 ≡ n → getD text (digitCount text) 0 ≡ n
@@ -89,24 +84,6 @@ module _ (text : List ℕ) (digits : Digits) (d : Leads text digits) where
       (lt-or-le (digits .count) (length text))
 
 -- ---- the two values
-
-one-value : (text : List ℕ) → until 44 text ≡ length text → values (split 44 text) ≡ malformed
-unfolding values
-one-value text e = rw (split-last 44 text e)
-
-first-of-all : (l : List ℕ) → (rest : List (List ℕ)) × (split 44 l ≡ piece l ∷ rest)
-first-of-all l =
-    let u = until-le 44 l in
-    ⊎-elim
-    (λ (h : until 44 l < length l). (split 44 (drop (suc (until 44 l)) l), split-more 44 l h))
-    (λ (h : length l ≤ until 44 l). let q : until 44 l ≡ length l = omega arith in ([], split-last 44 l q ∙ ap (λ x. x ∷ []) (sym (take-all (until 44 l) l h))))
-    (lt-or-le (until 44 l) (length l))
-
-two-values : (text : List ℕ) → until 44 text < length text → values (split 44 text) ≡ counted (number (piece text)) (value (piece (drop (suc (until 44 text)) text)))
-unfolding values
-two-values text h =
-    let (rest, p) = first-of-all (drop (suc (until 44 text)) text) in
-    ap values (split-more 44 text h ∙ ap (piece text ∷_) p)
 
 no-number : (text : List ℕ) → number (piece text) ≡ none → values (split 44 text) ≡ malformed
 no-number text e =
@@ -156,12 +133,3 @@ module _ (text : List ℕ) (digits : Digits) (d : Leads text digits) where
 
       pub line-counted : digits .value ≢ 0 → digits .value < pastBin → values (split 44 text) ≡ counted (some (digits .value)) (value (piece (drop (digits .count + 1) text)))
       line-counted k l = both-values (leading-small text digits d (some-digits text digits d k) l)
-
--- a line that begins `DA:`, and any other
-pub data-record : (text : List ℕ) → begins (68 ∷ 65 ∷ 58 ∷ []) text ≡ true → recordOf text ≡ values (split 44 (drop 3 text))
-unfolding recordOf bytes
-data-record text e = rw (e, recordOf)
-
-pub other-record : (text : List ℕ) → begins (68 ∷ 65 ∷ 58 ∷ []) text ≡ false → recordOf text ≡ passedOver
-unfolding recordOf bytes
-other-record text e = rw (e, recordOf)

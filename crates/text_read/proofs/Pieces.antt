@@ -79,13 +79,18 @@ split-more s (b ∷ l) e =
     (both (eqb b s))
 
 -- there is always a piece
-pub split-cases : (s : ℕ) (l : List ℕ) (P : List (List ℕ) → Type 0) → ((piece : List ℕ) (rest : List (List ℕ)) → P (piece ∷ rest)) → P (split s l)
-split-cases s l P f =
+pub split-first : (s : ℕ) (l : List ℕ) → (rest : List (List ℕ)) × (split s l ≡ take (until s l) l ∷ rest)
+split-first s l =
     let u = until-le s l in
     ⊎-elim
-    (λ (h : until s l < length l). rw (split-more s l h) (f _ _))
-    (λ (h : length l ≤ until s l). let q : until s l ≡ length l = omega arith in rw (split-last s l q) (f _ _))
+    (λ (h : until s l < length l). (split s (drop (suc (until s l)) l), split-more s l h))
+    (λ (h : length l ≤ until s l).
+    let q : until s l ≡ length l = omega arith in
+    ([], split-last s l q ∙ ap (λ x. x ∷ []) (sym (take-all (until s l) l h))))
     (lt-or-le (until s l) (length l))
+
+pub split-cases : (s : ℕ) (l : List ℕ) (P : List (List ℕ) → Type 0) → ((piece : List ℕ) (rest : List (List ℕ)) → P (piece ∷ rest)) → P (split s l)
+split-cases s l P f = let (rest, p) = split-first s l in rw p (f _ rest)
 
 -- the first piece and the others, where a separator is found
 pub split-found : (s : ℕ) (l : List ℕ) (end : ℕ) → end ≡ until s l → end ≢ length l

@@ -1,5 +1,5 @@
 -- The decimal value of a word, digit by digit. Assumes nothing.
-use Prim.Native.Nat.{ℕ, suc, _+_, _-_, _*_, _≤_, _<_}
+use Prim.Native.Nat.{ℕ, suc, _+_, _-_, _*_, _≤_, _<_, min}
 use borrow.Author.Tests.{le-leb, lt-leb, leb-true}
 use lib.Dec.{leb}
 use lib.ListN.{length, getD, take, drop, length-take, drop-of-length-le}
@@ -14,7 +14,7 @@ use native.Mathlib.Omega.{arith}
 use Rattle.model.proofs.Tests.{and-true, both, lt-or-le}
 use Rattle.model.specs.Runs.{lastBin, pastBin}
 use Rattle.text_read.specs.declared.Digits.{Digits}
-use Rattle.text_read.specs.Numbers.{isDigit, allDigits, decimalValue, value, number, digitCount, leadingValue, cutDown, Leads}
+use Rattle.text_read.specs.Numbers.{isDigit, allDigits, decimalValue, value, number, digitCount, Leads}
 
 -- ---- a byte
 
@@ -32,6 +32,11 @@ digit-within b e = let w = and-true (leb 48 b) (leb b 57) e in (leb-true 48 b (w
 
 -- ---- the digits that a text begins with, from a place on
 
+-- their value, after digits of the value n
+unfoldable pub leadingValue : ℕ → List ℕ → ℕ
+leadingValue n [] = n
+leadingValue n (b ∷ text) = elim (isDigit b) [ true ↦ leadingValue (n * 10 + (b - 48)) text | false ↦ n ]
+
 module _ (n : ℕ) (text : List ℕ) (i : ℕ) where
   pub digits-stop : i < length text → isDigit (getD text i 0) ≡ false → (digitCount (drop i text) ≡ 0) × (leadingValue n (drop i text) ≡ n)
   unfolding digitCount leadingValue
@@ -47,7 +52,7 @@ module _ (n : ℕ) (text : List ℕ) (i : ℕ) where
   unfolding digitCount leadingValue
   digits-end h = (rw (drop-of-length-le text h), rw (drop-of-length-le text h))
 
-value-grows : (n : ℕ) (text : List ℕ) → n ≤ leadingValue n text
+pub value-grows : (n : ℕ) (text : List ℕ) → n ≤ leadingValue n text
 unfolding leadingValue
 value-grows n [] = omega arith
 value-grows n (b ∷ text) =
@@ -55,18 +60,6 @@ value-grows n (b ∷ text) =
     (λ (t : isDigit b ≡ true). rw (t, leadingValue) (let h = value-grows (n * 10 + (b - 48)) text in omega arith))
     (λ (t : isDigit b ≡ false). rw (t, leadingValue) (omega arith))
     (both (isDigit b))
-
-pub cut-small : (n : ℕ) → n ≤ lastBin → cutDown n ≡ n
-unfolding cutDown
-cut-small n h = rw (le-leb n lastBin h, cutDown)
-
-pub cut-large : (n : ℕ) → lastBin < n → cutDown n ≡ pastBin
-unfolding cutDown
-cut-large n h = rw (lt-leb n lastBin h, cutDown)
-
--- a value that is too large stays so
-pub cut-from : (n : ℕ) (text : List ℕ) → lastBin < n → cutDown (leadingValue n text) ≡ pastBin
-cut-from n text h = let g = value-grows n text in cut-large (leadingValue n text) (omega arith)
 
 -- ---- a word
 
@@ -132,16 +125,16 @@ not-all (b ∷ word) h =
 
 -- The piece of the digits that a text begins with, by what was read of them.
 module _ (text : List ℕ) (digits : Digits) (d : Leads text digits) where
-  none-zero : digitCount text ≡ 0 → digits .value ≡ 0
-  unfolding lastBin decimalValue
-  none-zero e =
-      let v = leading-value 0 text in
-      let t : leadingValue 0 text ≡ 0 = v ∙ ap (λ n. decimalValue 0 (take n text)) e in
-      d .values ∙ (ap cutDown t ∙ cut-small 0 (omega arith))
+  told : digits .value ≡ min (leadingValue 0 text) pastBin
+  told = d .values ∙ ap (λ x. min x pastBin) (sym (leading-value 0 text))
 
   -- a value above 0 is of some digits
   pub some-digits : digits .value ≢ 0 → digits .count ≢ 0
-  some-digits h e = h (none-zero (sym (d .counts) ∙ e))
+  unfolding decimalValue
+  some-digits h e =
+      let t : leadingValue 0 text ≡ 0 = leading-value 0 text ∙ ap (λ n. decimalValue 0 (take n text)) (sym (d .counts) ∙ e) in
+      let v = told in
+      h (omega (arith, v, t))
 
   leading-piece : digits .count ≢ 0 → value (take (digits .count) text) ≡ some (leadingValue 0 text)
   leading-piece h =
@@ -150,38 +143,25 @@ module _ (text : List ℕ) (digits : Digits) (d : Leads text digits) where
 
   -- whether a count is above 0
   pub leading-zero : digits .count ≢ 0 → digits .value ≡ 0 → value (take (digits .count) text) ≡ some 0
-  unfolding lastBin pastBin
-  leading-zero h e =
-      ⊎-elim
-      (λ (m : lastBin < leadingValue 0 text). let v = d .values ∙ cut-large (leadingValue 0 text) m in absurd (omega (arith, v, e)))
-      (λ (m : leadingValue 0 text ≤ lastBin). let v = d .values ∙ cut-small (leadingValue 0 text) m in leading-piece h ∙ ap some (sym v ∙ e))
-      (lt-or-le lastBin (leadingValue 0 text))
+  unfolding pastBin
+  leading-zero h e = let v = told in let z : leadingValue 0 text ≡ 0 = omega (arith, v, e) in leading-piece h ∙ ap some z
 
   pub leading-above : digits .value ≢ 0 → (n : ℕ) × ((value (take (digits .count) text) ≡ some n) × (n ≢ 0))
-  unfolding lastBin
-  leading-above h = (
-    leadingValue 0 text,
-    (leading-piece (some-digits h), λ e. h (d .values ∙ (ap cutDown e ∙ cut-small 0 (omega arith)))),
-  )
+  leading-above h = let v = told in (leadingValue 0 text, (leading-piece (some-digits h), λ e. h (omega (arith, v, e))))
 
   -- its number
   pub leading-large : pastBin ≤ digits .value → number (take (digits .count) text) ≡ none
   unfolding number lastBin pastBin
   leading-large l =
-      ⊎-elim
-      (λ (m : lastBin < leadingValue 0 text).
-      rw (leading-piece (some-digits (λ e. omega (arith, e, l))), number) (rw (lt-leb (leadingValue 0 text) lastBin m, number)))
-      (λ (m : leadingValue 0 text ≤ lastBin). let v = d .values ∙ cut-small (leadingValue 0 text) m in absurd (omega (arith, v, l, m)))
-      (lt-or-le lastBin (leadingValue 0 text))
+      let v = told in
+      rw (leading-piece (some-digits (λ e. omega (arith, e, l))), number) (rw (lt-leb (leadingValue 0 text) lastBin (omega (arith, v, l)), number))
 
   pub leading-small : digits .count ≢ 0 → digits .value < pastBin → number (take (digits .count) text) ≡ some (digits .value)
   unfolding number lastBin pastBin
   leading-small h l =
-      ⊎-elim
-      (λ (m : lastBin < leadingValue 0 text). let v = d .values ∙ cut-large (leadingValue 0 text) m in absurd (omega (arith, v, l)))
-      (λ (m : leadingValue 0 text ≤ lastBin).
-      rw (leading-piece h, number) (rw (le-leb (leadingValue 0 text) lastBin m, number) (ap some (sym (d .values ∙ cut-small (leadingValue 0 text) m)))))
-      (lt-or-le lastBin (leadingValue 0 text))
+      let v = told in
+      let z : leadingValue 0 text ≡ digits .value = omega (arith, v, l) in
+      rw (leading-piece h, number) (rw (le-leb (leadingValue 0 text) lastBin (omega (arith, z, l)), number) (ap some z))
 
 -- A word, which is that piece if it has no other byte.
 module _ (word : List ℕ) (digits : Digits) (d : Leads word digits) where

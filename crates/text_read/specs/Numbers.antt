@@ -1,10 +1,11 @@
 -- A piece of a text as a decimal number, and the digits that a text begins with. Definitions only.
-use Prim.Native.Nat.{ℕ, suc, _+_, _-_, _*_}
+use Prim.Native.Nat.{ℕ, suc, _+_, _-_, _*_, min}
 use mathlib.Core.Bool.{true, false, Bool, _&&_}
 use mathlib.Core.List.{List, [], _∷_}
 use mathlib.Core.Option.{Option, none, some}
 use mathlib.Core.Path.{_≡_}
 use lib.Dec.{leb}
+use lib.ListN.{take}
 use Rattle.text_read.specs.declared.Digits.{Digits}
 use Rattle.text_read.specs.declared.Word.{Word}
 use Rattle.text_read.specs.declared.Word.the-variants.{Number, NoNumber}
@@ -36,19 +37,11 @@ value (b ∷ word) = elim (allDigits (b ∷ word)) [ true ↦ some (decimalValue
 unfoldable pub number : List ℕ → Option ℕ
 number word = elim (value word) [ none ↦ none | some n ↦ elim (leb n lastBin) [ true ↦ some n | false ↦ none ] ]
 
--- The digits that a text begins with: how many, and their value. (n is the value of the digits before.)
+-- The digits that a text begins with: how many; and their value or, if it is above 4294967295, the next number.
 unfoldable pub digitCount : List ℕ → ℕ
 digitCount [] = 0
 digitCount (b ∷ text) = elim (isDigit b) [ true ↦ suc (digitCount text) | false ↦ 0 ]
 
-unfoldable pub leadingValue : ℕ → List ℕ → ℕ
-leadingValue n [] = n
-leadingValue n (b ∷ text) = elim (isDigit b) [ true ↦ leadingValue (n * 10 + (b - 48)) text | false ↦ n ]
-
--- a value above 4294967295 cut down to the next number
-unfoldable pub cutDown : ℕ → ℕ
-cutDown n = elim (leb n lastBin) [ true ↦ n | false ↦ pastBin ]
-
 pub record Leads (text : List ℕ) (digits : Digits) : Type 0 where
   pub counts : digits .count ≡ digitCount text
-  pub values : digits .value ≡ cutDown (leadingValue 0 text)
+  pub values : digits .value ≡ min (decimalValue 0 (take (digitCount text) text)) pastBin

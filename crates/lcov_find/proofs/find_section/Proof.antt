@@ -8,7 +8,7 @@ use mathlib.Core.Path.{_≡_, sym, _∙_}
 use native.Mathlib.Omega.{arith}
 use Rattle.lcov_form.specs.Reading.{sectionOf}
 use Rattle.text_read.proofs.Pieces.{piece-ends}
-use Rattle.lcov_find.proofs.Finding.{leftOf, left-start, left-end, left-passed, left-closed, left-found, left-opened}
+use Rattle.lcov_find.proofs.Finding.{leftOf, left-start, left-end, left-inside, left-closed, left-outside, left-found, left-opened}
 use Rattle.lcov_find.proofs.Lines.{Ends, line-ends}
 use Rattle.lcov_find.proofs.find_section.Statement.{statement}
 use Rattle.lcov_find.proofs.find_section.Tie as tie
@@ -50,27 +50,38 @@ add-end c = let h = line-ends (line-of c) in omega (arith, h)
 add-next : tie.Need-add-next Inv-loop μ-loop
 add-next c = let h = line-ends (line-of c) in omega (arith, h)
 
-sub-opens-or-closes : tie.Need-sub-opens-or-closes Inv-loop μ-loop
-sub-opens-or-closes c = search needs
+sub-closes : tie.Need-sub-closes Inv-loop μ-loop
+sub-closes c = search needs
 
-part-opens-or-closes-start : tie.Need-part-opens-or-closes-start Inv-loop μ-loop
-part-opens-or-closes-start c = search needs
+part-closes-start : tie.Need-part-closes-start Inv-loop μ-loop
+part-closes-start c = search needs
 
-part-opens-or-closes-end : tie.Need-part-opens-or-closes-end Inv-loop μ-loop
-part-opens-or-closes-end c = let h = line-ends (line-of c) in omega (arith, h)
+part-closes-end : tie.Need-part-closes-end Inv-loop μ-loop
+part-closes-end c = let h = line-ends (line-of (c .before)) in omega (arith, h)
 
-opens-or-closes-requires : tie.Need-opens-or-closes-requires Inv-loop μ-loop
-opens-or-closes-requires c κs = search needs
+closes-requires : tie.Need-closes-requires Inv-loop μ-loop
+closes-requires c κs = search needs
+
+sub-opens : tie.Need-sub-opens Inv-loop μ-loop
+sub-opens c = search needs
+
+part-opens-start : tie.Need-part-opens-start Inv-loop μ-loop
+part-opens-start c = search needs
+
+part-opens-end : tie.Need-part-opens-end Inv-loop μ-loop
+part-opens-end c = let h = line-ends (line-of (c .before)) in omega (arith, h)
+
+opens-requires : tie.Need-opens-requires Inv-loop μ-loop
+opens-requires c κs = search needs
 
 returns : tie.Need-returns Inv-loop μ-loop
 returns c =
     let f = c .before .before .before .before .before in
     let l = loop-of f .loop in
-    sym (left-found (line-of f) (l .inside) (l .left) (c .before .if2 .left) (c .if3 .taken) (sym (c .before .before .before .opens-or-closes .ensures) ∙ c .before .before .if1 .taken))
-    ∙ l .inv .1
+    sym (left-found (line-of f) (l .left) (l .inside) (c .before .before .before .before .if1 .left) (c .if4 .taken) (sym (c .before .before .opens .ensures) ∙ c .before .if3 .taken)) ∙ l .inv .1
 
 sub-left : tie.Need-sub-left Inv-loop μ-loop
-sub-left c = omega (arith, c .if3 .left)
+sub-left c = omega (arith, c .if4 .left)
 
 loop-less : tie.Need-loop-less Inv-loop μ-loop
 loop-less c = search needs
@@ -79,33 +90,38 @@ loop-again : tie.Need-loop-again Inv-loop μ-loop
 loop-again c =
     let f = c .before .before .before .before in
     let l = loop-of f .loop in
-    let h = line-ends (line-of f) in (
-      omega (arith, h),
-      sym (left-closed (line-of f) (l .inside) (l .left) (c .if2 .taken) (sym (c .before .before .opens-or-closes .ensures) ∙ c .before .if1 .taken)) ∙ l .inv .1,
-    )
+    let h = line-ends (line-of f) in
+    (omega (arith, h), sym (left-closed (line-of f) (l .left) (l .inside) (c .before .before .before .if1 .taken) (sym (c .before .closes .ensures) ∙ c .if2 .taken)) ∙ l .inv .1)
 
 loop-less-2 : tie.Need-loop-less-2 Inv-loop μ-loop
 loop-less-2 c = search needs
 
 loop-again-2 : tie.Need-loop-again-2 Inv-loop μ-loop
 loop-again-2 c =
-    let f = c .before .before .before .before .before in
+    let f = c .before .before .before .before in
     let l = loop-of f .loop in
-    let h = line-ends (line-of f) in (
-      omega (arith, h),
-      sym (left-opened (line-of f) (l .inside) (l .left) (c .before .if2 .left) (c .if3 .left) (sym (c .before .before .before .opens-or-closes .ensures) ∙ c .before .before .if1 .taken))
-          ∙ l .inv .1,
-    )
+    let h = line-ends (line-of f) in
+    (omega (arith, h), sym (left-inside (line-of f) (l .left) (l .inside) (c .before .before .before .if1 .taken) (sym (c .before .closes .ensures) ∙ c .if2 .left)) ∙ l .inv .1)
 
 loop-less-3 : tie.Need-loop-less-3 Inv-loop μ-loop
 loop-less-3 c = search needs
 
 loop-again-3 : tie.Need-loop-again-3 Inv-loop μ-loop
 loop-again-3 c =
-    let f = c .before .before .before in
+    let f = c .before .before .before .before .before in
     let l = loop-of f .loop in
     let h = line-ends (line-of f) in
-    (omega (arith, h), sym (left-passed (line-of f) (l .inside) (l .left) (sym (c .before .opens-or-closes .ensures) ∙ c .if1 .left)) ∙ l .inv .1)
+    (omega (arith, h), sym (left-opened (line-of f) (l .left) (l .inside) (c .before .before .before .before .if1 .left) (c .if4 .left) (sym (c .before .before .opens .ensures) ∙ c .before .if3 .taken)) ∙ l .inv .1)
+
+loop-less-4 : tie.Need-loop-less-4 Inv-loop μ-loop
+loop-less-4 c = search needs
+
+loop-again-4 : tie.Need-loop-again-4 Inv-loop μ-loop
+loop-again-4 c =
+    let f = c .before .before .before .before in
+    let l = loop-of f .loop in
+    let h = line-ends (line-of f) in
+    (omega (arith, h), sym (left-outside (line-of f) (l .left) (l .inside) (c .before .before .before .if1 .left) (sym (c .before .opens .ensures) ∙ c .if3 .left)) ∙ l .inv .1)
 
 returns-2 : tie.Need-returns-2 Inv-loop μ-loop
 returns-2 c = let l = c .before .loop in left-end (c .before .before .before .args .file .now) (l .at) (l .inside) (l .left) (c .loop-test .left) ∙ l .inv .1
@@ -123,10 +139,14 @@ find-section-spec =
     first-of-requires
     add-end
     add-next
-    sub-opens-or-closes
-    part-opens-or-closes-start
-    part-opens-or-closes-end
-    opens-or-closes-requires
+    sub-closes
+    part-closes-start
+    part-closes-end
+    closes-requires
+    sub-opens
+    part-opens-start
+    part-opens-end
+    opens-requires
     returns
     sub-left
     loop-less
@@ -135,4 +155,6 @@ find-section-spec =
     loop-again-2
     loop-less-3
     loop-again-3
+    loop-less-4
+    loop-again-4
     returns-2)

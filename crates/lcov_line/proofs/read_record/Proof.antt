@@ -9,7 +9,7 @@ use Rattle.lcov_form.specs.Form.{values}
 use Rattle.text_read.specs.Pieces.{split}
 use Rattle.text_match.proofs.Matches.{begins-long}
 use Rattle.text_read.proofs.Pieces.{rest-is}
-use Rattle.lcov_line.proofs.Values.{data-record, other-record}
+use Rattle.lcov_form.proofs.Records.{data-record, other-record}
 use Rattle.lcov_line.proofs.read_record.Statement.{statement}
 use Rattle.lcov_line.proofs.read_record.Tie as tie
 

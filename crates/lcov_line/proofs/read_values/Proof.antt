@@ -9,7 +9,8 @@ use Rattle.model.specs.Runs.{pastBin}
 use Rattle.lcov_form.specs.Form.{counted}
 use Rattle.text_read.specs.Numbers.{value}
 use Rattle.text_read.proofs.Pieces.{rest-is}
-use Rattle.lcov_line.proofs.Values.{piece, no-comma, count-inside, other-byte, zero-line, large-line, line-counted}
+use Rattle.lcov_form.proofs.Records.{piece}
+use Rattle.lcov_line.proofs.Values.{no-comma, count-inside, other-byte, zero-line, large-line, line-counted}
 use Rattle.lcov_line.proofs.read_values.Statement.{statement}
 use Rattle.lcov_line.proofs.read_values.Tie as tie
 

@@ -1,7 +1,6 @@
 -- `first_of` gives the length of the first piece, four bytes at a time. The invariant: it is what was passed with the length of the first piece from here on. The
 -- measure is what is left. Assumes nothing.
 use Prim.Native.Nat.{_+_, _-_, _≤_}
-use borrow.Author.Needs.{needs}
 use lib.ListN.{length, drop}
 use mathlib.Core.Path.{_≡_, sym, _∙_}
 use native.Mathlib.Omega.{arith}

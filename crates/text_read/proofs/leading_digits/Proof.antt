@@ -1,6 +1,6 @@
 -- `leading_digits` gives the digits that a text begins with. The invariant: their number is what was passed with those from here on, and their value, cut down,
 -- is that of a text whose first digits have the value so far, which is at most the last bin. The measure is what is left. Assumes nothing.
-use Prim.Native.Nat.{ℕ, _+_, _-_, _*_, _≤_}
+use Prim.Native.Nat.{ℕ, _+_, _-_, _*_, _≤_, min}
 use borrow.Author.Needs.{needs}
 use borrow.Author.Tests.{not-true, not-false}
 use lib.ListN.{length, getD, drop}
@@ -9,22 +9,27 @@ use mathlib.Core.List.{List}
 use mathlib.Core.Path.{_≡_, refl, sym, ap, _∙_}
 use native.Mathlib.Omega.{arith}
 use Rattle.model.specs.Runs.{lastBin, pastBin}
-use Rattle.text_read.specs.Numbers.{isDigit, digitCount, leadingValue, cutDown, Leads}
-use Rattle.text_read.proofs.Values.{digit-within, digits-stop, digits-on, digits-end, cut-small, cut-from}
+use Rattle.text_read.specs.Numbers.{isDigit, digitCount, Leads}
+use Rattle.text_read.proofs.Values.{leadingValue, digit-within, digits-stop, digits-on, digits-end, value-grows, leading-value}
 use Rattle.text_read.proofs.leading_digits.Statement.{statement}
 use Rattle.text_read.proofs.leading_digits.Tie as tie
 
 abbrev Inv-loop : tie.InvT-loop
 Inv-loop text value₀ i₀ v i =
-    (i ≤ length text) × (v ≤ lastBin) × (digitCount text ≡ i + digitCount (drop i text)) × (cutDown (leadingValue 0 text) ≡ cutDown (leadingValue v (drop i text)))
+    (i ≤ length text) × (v ≤ lastBin) × (digitCount text ≡ i + digitCount (drop i text)) × (min (leadingValue 0 text) pastBin ≡ min (leadingValue v (drop i text)) pastBin)
 
 abbrev μ-loop : tie.MeasureT-loop
 μ-loop text value₀ i₀ v i = length text - i
 
 -- the digits end here
-ended : (text : List ℕ) (v i : ℕ) → v ≤ lastBin → digitCount text ≡ i + digitCount (drop i text) → cutDown (leadingValue 0 text) ≡ cutDown (leadingValue v (drop i text))
+ended : (text : List ℕ) (v i : ℕ) → v ≤ lastBin → digitCount text ≡ i + digitCount (drop i text) → min (leadingValue 0 text) pastBin ≡ min (leadingValue v (drop i text)) pastBin
     → (digitCount (drop i text) ≡ 0) × (leadingValue v (drop i text) ≡ v) → Leads text (record { count = i; value = v })
-ended text v i h e f s = record { counts = let z = s .0 in omega (arith, e, z); values = sym (f ∙ (ap cutDown (s .1) ∙ cut-small v h)) }
+unfolding lastBin pastBin
+ended text v i h e f s =
+    let c = s .0 in
+    let w = s .1 in
+    let z = leading-value 0 text in
+    record { counts = omega (arith, e, c); values = omega (arith, f, w, z, h) }
 
 loop-holds : tie.Need-loop-holds Inv-loop μ-loop
 unfolding lastBin
@@ -82,10 +87,11 @@ returns-2 c =
     let d = c .digits-from .ensures in
     let e = u .u64-of-u8 .ensures in
     let t = c .before .if2 .taken in
-    record {
-      counts = omega (arith, k, n, d);
-      values = sym (l .inv .3 ∙ (ap cutDown (g .1) ∙ cut-from (l .value * 10 + (getD (a .text .now) (l .i) 0 - 48)) (drop (l .i + 1) (a .text .now)) (omega (arith, e, t))));
-    }
+    let w = g .1 in
+    let f = l .inv .3 in
+    let z = leading-value 0 (a .text .now) in
+    let o = value-grows (l .value * 10 + (getD (a .text .now) (l .i) 0 - 48)) (drop (l .i + 1) (a .text .now)) in
+    record { counts = omega (arith, k, n, d); values = omega (arith, f, w, z, o, e, t) }
 
 loop-less : tie.Need-loop-less Inv-loop μ-loop
 loop-less c = search needs
@@ -103,7 +109,8 @@ loop-again c =
       omega arith,
       omega (arith, t),
       omega (arith, k, n),
-      l .inv .3 ∙ (ap cutDown (g .1) ∙ ap (λ x. cutDown (leadingValue (l .value * 10 + x) (drop (l .i + 1) (a .text .now)))) (sym (u .u64-of-u8 .ensures))),
+      l .inv .3
+          ∙ (ap (λ x. min x pastBin) (g .1) ∙ ap (λ x. min (leadingValue (l .value * 10 + x) (drop (l .i + 1) (a .text .now))) pastBin) (sym (u .u64-of-u8 .ensures))),
     )
 
 returns-3 : tie.Need-returns-3 Inv-loop μ-loop
