@@ -1,6 +1,6 @@
-// Small functions on numbers: a number in a wider type, the lesser and the greater of two, what is left of one, a comparison as a number.
+// Small functions on numbers: a number in a wider type, the lesser and the greater of two, what is left of one, half of one, a comparison as a number.
 ghost use mathlib.Core.Path.{_≡_};
-ghost use Prim.Native.Nat.{_-_, _<_, min};
+ghost use Prim.Native.Nat.{_-_, _/_, _<_, min};
 ghost use lib.Dec.{ltb};
 ghost use Rattle.model.specs.Runs.{one};
 ghost use Rattle.arith.specs.Order.{lesser, greater};
@@ -71,4 +71,11 @@ pub fn left(whole: usize, taken: usize) -> usize
     ensures { λ r. ⌜ r ≡ whole - taken ⌝ }
 {
     if taken <= whole { whole - taken } else { 0 }
+}
+
+// Half of a number, rounded down. (No loop divides: docs/DECISIONS.md, 'Where the code divides'.)
+pub fn half(x: usize) -> usize
+    ensures { λ r. ⌜ r ≡ x / 2 ⌝ }
+{
+    x >> 1
 }

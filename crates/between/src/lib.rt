@@ -19,7 +19,7 @@ fn first_at_least(list: &[u32], v: u64) -> usize
     let mut lo = 0;
     let mut hi = list.len();
     while lo < hi {
-        let mid = lo + (hi - lo) / 2;
+        let mid = lo + arith::half(hi - lo);
         if arith::u64_of_u32(list[mid]) < v {
             lo = mid + 1;
         } else {

@@ -6,8 +6,14 @@ ghost use Rattle.model.specs.Runs.{slice, firstBin, pastBin};
 ghost use Rattle.model.specs.Walk.{headOf};
 ghost use Rattle.check_cursor.specs.Cursors.{cursorPlaces, placeOf, binOf, Cursors, Begins};
 
+// A cursor's lowest bits, so many, are its place.
+const PLACE_BITS: u64 = 21;
+
 // A cursor has room for so many places; there are at most half as many numbers.
-pub const PLACES: u64 = 2097152;
+pub const PLACES: u64 = 1 << PLACE_BITS;
+
+// As a mask, all bits of a place.
+const LAST_PLACE: u64 = PLACES - 1;
 
 // A cursor of a run: a bin × PLACES + a place. The run has no number that is still uncovered before the place, and the bin is the number at the place, or
 // the number after the last bin at the run's end.
@@ -21,13 +27,13 @@ pub fn cursor_at(bin: u64, place: usize) -> u64
 pub fn place_of(cursor: u64) -> usize
     ensures { λ r. ⌜ r ≡ placeOf cursor ⌝ }
 {
-    (cursor % PLACES) as usize
+    (cursor & LAST_PLACE) as usize
 }
 
 pub fn bin_of(cursor: u64) -> u64
     ensures { λ r. ⌜ r ≡ binOf cursor ⌝ }
 {
-    cursor / PLACES
+    cursor >> PLACE_BITS
 }
 
 // The number at a place of a run that ends at `end`, or the number after the last bin at its end.

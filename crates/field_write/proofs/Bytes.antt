@@ -1,9 +1,13 @@
--- A number of m + n bytes as its low m bytes and its high n bytes, written and read. Assumes nothing.
+-- A number's bytes by masks and shifts; a number of m + n bytes as its low m bytes and its high n bytes, written and read. Assumes nothing.
 use Prim.Native.Nat.{ℕ, zero, suc, _+_, _*_, _/_, _%_, _^_, _<_}
 use lib.Arith.{mod-mul}
+use lib.Bits.{bitAnd, and-mask, mask-lt}
 use lib.ListN.{length}
 use mathlib.Core.List.{List, [], _∷_, _++_}
 use mathlib.Core.Path.{_≡_, sym, ap}
+use mir.Facts.{fits-bits}
+use mir.Syntax.{w8}
+use mir.Val.{Fits}
 use native.Mathlib.Nat.{zero-add, pow-suc, pow-succ', div-one, div-div-eq-div-mul}
 use native.Mathlib.Omega.{arith}
 use Rattle.model.specs.Certificate.{bytesOf, numberOf}
@@ -12,8 +16,27 @@ pow-pos : (m : ℕ) → 0 < 256 ^ m
 pow-pos zero = omega arith
 pow-pos (suc m) = let i = pow-pos m in omega arith
 
+-- ---- bytes by masks and shifts
+
+-- a mask of eight ones leaves a byte
+pub byte-fits : (x : ℕ) → Fits w8 (bitAnd x 255)
+byte-fits x = fits-bits 8 tt (mask-lt x 8)
+
+pub two-bytes : (x : ℕ) → x < 2 ^ 16 → bytesOf 2 x ≡ bitAnd x 255 ∷ x / 2 ^ 8 ∷ []
+unfolding bytesOf
+two-bytes x h = let e : x / 256 % 256 ≡ x / 2 ^ 8 = omega arith in rw (and-mask x 8, e)
+
+pub four-bytes : (x : ℕ) → x < 2 ^ 32 → bytesOf 4 x ≡ bitAnd x 255 ∷ bitAnd (x / 2 ^ 8) 255 ∷ bitAnd (x / 2 ^ 16) 255 ∷ x / 2 ^ 24 ∷ []
+unfolding bytesOf
+four-bytes x h =
+    let e₂ : x / 256 / 256 % 256 ≡ x / 2 ^ 16 % 256 = omega arith in
+    let e₃ : x / 256 / 256 / 256 % 256 ≡ x / 2 ^ 24 = omega arith in
+    rw (and-mask x 8, and-mask (x / 2 ^ 8) 8, and-mask (x / 2 ^ 16) 8, e₂, e₃)
+
+-- ---- the two halves of a number
+
 -- the low bytes of a number, and then its high bytes
-pub bytes-split : (m n x : ℕ) → bytesOf m (x % 256 ^ m) ++ bytesOf n (x / 256 ^ m) ≡ bytesOf (m + n) x
+bytes-split : (m n x : ℕ) → bytesOf m (x % 256 ^ m) ++ bytesOf n (x / 256 ^ m) ≡ bytesOf (m + n) x
 unfolding bytesOf
 bytes-split zero n x = rw (div-one x, zero-add n)
 bytes-split (suc m) n x =
@@ -23,6 +46,10 @@ bytes-split (suc m) n x =
     let rest : x / 256 ^ suc m ≡ x / 256 / 256 ^ m = rw (pow-succ' 256 m) (sym (div-div-eq-div-mul x 256 (256 ^ m))) in
     let e₁ : suc m + n ≡ suc (m + n) = omega arith in
     rw (low, high, rest, e₁) (ap (λ (s : List ℕ). x % 256 ∷ s) (bytes-split m n (x / 256)))
+
+-- eight bytes: those of the lower half, found by a mask, and then those of the upper half
+pub eight-bytes : (x : ℕ) → bytesOf 4 (bitAnd x 4294967295) ++ bytesOf 4 (x / 2 ^ 32) ≡ bytesOf 8 x
+eight-bytes x = rw (and-mask x 32) (bytes-split 4 4 x)
 
 -- the number of two rows of bytes
 pub number-append : (s t : List ℕ) → numberOf (s ++ t) ≡ numberOf s + 256 ^ length s * numberOf t

@@ -18,8 +18,8 @@ fn write_head(certificate: &mut [u8], at: usize, tag: u8, size: u16)
     ensures { λ _. ⌜ now (certificate .exit) ≡ placed (now (certificate .entry)) at (tag ∷ bytesOf 2 size) ⌝ }
 {
     certificate[at] = tag;
-    certificate[at + 1] = (size % 256) as u8;
-    certificate[at + 2] = (size / 256 % 256) as u8;
+    certificate[at + 1] = (size & 255) as u8;
+    certificate[at + 2] = (size >> 8) as u8;
 }
 
 // Writes a number in four bytes, the lowest first.
@@ -27,10 +27,10 @@ fn write_u32(certificate: &mut [u8], at: usize, x: u32)
     requires { ⌜ at + 4 ≤ length (now certificate) ⌝ }
     ensures { λ _. ⌜ now (certificate .exit) ≡ placed (now (certificate .entry)) at (bytesOf 4 x) ⌝ }
 {
-    certificate[at] = (x % 256) as u8;
-    certificate[at + 1] = (x / 256 % 256) as u8;
-    certificate[at + 2] = (x / 256 / 256 % 256) as u8;
-    certificate[at + 3] = (x / 256 / 256 / 256 % 256) as u8;
+    certificate[at] = (x & 255) as u8;
+    certificate[at + 1] = ((x >> 8) & 255) as u8;
+    certificate[at + 2] = ((x >> 16) & 255) as u8;
+    certificate[at + 3] = (x >> 24) as u8;
 }
 
 // Writes a number in eight bytes, the lowest first.
@@ -38,8 +38,8 @@ fn write_u64(certificate: &mut [u8], at: usize, x: u64)
     requires { ⌜ at + 8 ≤ length (now certificate) ⌝ }
     ensures { λ _. ⌜ now (certificate .exit) ≡ placed (now (certificate .entry)) at (bytesOf 8 x) ⌝ }
 {
-    write_u32(certificate, at, (x % 4294967296) as u32);
-    write_u32(certificate, at + 4, (x / 4294967296) as u32);
+    write_u32(certificate, at, (x & 0xffff_ffff) as u32);
+    write_u32(certificate, at + 4, (x >> 32) as u32);
 }
 
 // Writes an answer's field from `at` on where it fits whole; otherwise nothing is written.

@@ -23,7 +23,7 @@ pub fn names_run(mask: u64, run: u32) -> bool
     requires { ⌜ run < maskBits ⌝ }
     ensures { λ r. ⌜ r ≡ eqb (bit mask run) 1 ⌝ }
 {
-    (mask >> run) % 2 == 1
+    (mask >> run) & 1 == 1
 }
 
 // Whether the mask names no run from `k` on.

@@ -31,7 +31,7 @@ fn rows_check(masks: &[u64], thresholds: &[u32], results: &[u64]) -> Checked
             place: n,
         };
     }
-    if results.len() / 2 < n {
+    if (results.len() >> 1) < n {
         return Checked::Refused {
             number: 14,
             place: n,

@@ -26,7 +26,7 @@ pub fn nth_head(keys: &[u64], start: usize, t: usize) -> u64
     requires { ⌜ (0 < t) × (start + t ≤ length (now keys)) ⌝ }
     ensures { λ r. ⌜ r ≡ nthHead t (drop start (now (keys .entry))) ⌝ }
 {
-    keys[start + (t - 1)] / 256
+    keys[start + (t - 1)] >> 8
 }
 
 // The keys of the row that are below `limit`: how many, and the mask of their runs.
@@ -45,7 +45,7 @@ pub fn front(keys: &[u64], start: usize, limit: u64) -> Below
                 named: named,
             };
         }
-        named += mask::only_run((key % 256) as u32);
+        named += mask::only_run((key & 255) as u32);
         i += 1;
     }
     Below {

@@ -109,13 +109,13 @@ halve-turn-down : (n k v : ℕ) (s : List ℕ) (lo hi : ℕ) → 1 < hi - lo →
 halve-turn-down zero k v s lo hi h l o = absurd (omega arith)
 halve-turn-down (suc n) k v s lo hi h l o = one-more-h k n v s lo hi lo (lo + (hi - lo) / 2) (halve-down n v s lo hi h o) (omega arith)
 
-pub halve-next-up : (k v : ℕ) (s : List ℕ) (lo hi : ℕ) → 1 < hi - lo → hi ≤ length s → getD s (lo + (hi - lo) / 2) 0 < v
-    → moreH k (halving (length s) v s lo hi) ≡ moreH (k + 1) (halving (length s) v s (lo + (hi - lo) / 2) hi)
-halve-next-up k v s lo hi h l o = halve-turn-up (length s) k v s lo hi h l o
+pub halve-next-up : (k v : ℕ) (s : List ℕ) (lo hi half : ℕ) → half ≡ (hi - lo) / 2 → 1 < hi - lo → hi ≤ length s → getD s (lo + half) 0 < v
+    → moreH k (halving (length s) v s lo hi) ≡ moreH (k + 1) (halving (length s) v s (lo + half) hi)
+halve-next-up k v s lo hi half e h l o = rw e (halve-turn-up (length s) k v s lo hi h l (rw (← e) o))
 
-pub halve-next-down : (k v : ℕ) (s : List ℕ) (lo hi : ℕ) → 1 < hi - lo → hi ≤ length s → v ≤ getD s (lo + (hi - lo) / 2) 0
-    → moreH k (halving (length s) v s lo hi) ≡ moreH (k + 1) (halving (length s) v s lo (lo + (hi - lo) / 2))
-halve-next-down k v s lo hi h l o = halve-turn-down (length s) k v s lo hi h l o
+pub halve-next-down : (k v : ℕ) (s : List ℕ) (lo hi half : ℕ) → half ≡ (hi - lo) / 2 → 1 < hi - lo → hi ≤ length s → v ≤ getD s (lo + half) 0
+    → moreH k (halving (length s) v s lo hi) ≡ moreH (k + 1) (halving (length s) v s lo (lo + half))
+halve-next-down k v s lo hi half e h l o = rw e (halve-turn-down (length s) k v s lo hi h l (rw (← e) o))
 
 pub halve-done : (k v : ℕ) (s : List ℕ) (lo hi : ℕ) → hi - lo ≤ 1 → moreH k (halving (length s) v s lo hi) ≡ record { probes = k + 0; place = hi }
 unfolding moreH

@@ -67,7 +67,7 @@ fn halved(s: &[u32], v: u32, from: usize, to: usize, before: u64) -> Placed
         if walk_tally::left(tally) == 0 {
             return Placed::NoneLeft(tally);
         }
-        let m = lo + (hi - lo) / 2;
+        let m = lo + arith::half(hi - lo);
         let x = s[m];
         tally = walk_tally::halved(tally);
         if x < v {

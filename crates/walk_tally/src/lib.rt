@@ -15,14 +15,14 @@ pub fn whole(allowance: u32) -> u64
 pub fn left(tally: u64) -> u32
     ensures { λ r. ⌜ r ≡ leftIn tally ⌝ }
 {
-    (tally % 4294967296) as u32
+    (tally & 0xffff_ffff) as u32
 }
 
 // The halving probes made.
 pub fn halvings(tally: u64) -> u32
     ensures { λ r. ⌜ r ≡ halvedIn tally ⌝ }
 {
-    (tally / 4294967296) as u32
+    (tally >> 32) as u32
 }
 
 // The doubling probes made of an allowance.

@@ -1,6 +1,6 @@
 -- `first_at_least` meets its contract. The loop's invariant: the rank lies between lo and hi, and hi within the list. The measure, hi - lo, falls,
 -- since the middle is at least lo and below hi. Assumes nothing.
-use Prim.Native.Nat.{_+_, _-_, _/_, _≤_}
+use Prim.Native.Nat.{_+_, _-_, _≤_}
 use denote.Ref.{now}
 use lib.ListN.{length}
 use native.Mathlib.Omega.{arith}
@@ -19,8 +19,11 @@ abbrev μ-loop : tie.MeasureT-loop
 loop-holds : tie.Need-loop-holds Inv-loop μ-loop
 loop-holds c = let r = rank-le (c .before .args .v) (now (c .before .args .list)) in omega arith
 
-sub-mid : tie.Need-sub-mid Inv-loop μ-loop
-sub-mid c = omega arith
+sub-half : tie.Need-sub-half Inv-loop μ-loop
+sub-half c = omega arith
+
+half-requires : tie.Need-half-requires Inv-loop μ-loop
+half-requires c κs = tt
 
 add-mid : tie.Need-add-mid Inv-loop μ-loop
 add-mid c = omega arith
@@ -42,9 +45,10 @@ loop-less c = omega arith
 
 loop-again : tie.Need-loop-again Inv-loop μ-loop
 loop-again c =
-    let at = c .before .before .before .before in
+    let m = c .before .before .before in
+    let at = m .before .before in
     let a = at .before .before .args in
-    let mid = at .loop .lo + (at .loop .hi - at .loop .lo) / 2 in
+    let mid = at .loop .lo + m .half .result in
     let e = c .before .u64-of-u32 .ensures in
     let p = place-low (a .v) (now (a .list)) (at .before .before .pre) mid (omega arith) (omega arith) in
     omega arith
@@ -54,9 +58,10 @@ loop-less-2 c = omega arith
 
 loop-again-2 : tie.Need-loop-again-2 Inv-loop μ-loop
 loop-again-2 c =
-    let at = c .before .before .before .before in
+    let m = c .before .before .before in
+    let at = m .before .before in
     let a = at .before .before .args in
-    let mid = at .loop .lo + (at .loop .hi - at .loop .lo) / 2 in
+    let mid = at .loop .lo + m .half .result in
     let p = place-high (a .v) (now (a .list)) mid (omega arith) in
     omega arith
 
@@ -70,7 +75,8 @@ first-at-least-spec =
     Inv-loop
     μ-loop
     loop-holds
-    sub-mid
+    sub-half
+    half-requires
     add-mid
     mul-u64-of-u32
     shared-slice-read-u64-of-u32

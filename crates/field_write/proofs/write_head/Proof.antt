@@ -1,12 +1,14 @@
 -- `write_head` meets its contract: the three stores are the three bytes placed.
 -- Assumes nothing.
+use Prim.Native.Nat.{_/_, _^_}
 use borrow.Author.Needs.{needs}
 use denote.Ref.{now}
+use lib.Bits.{bitAnd}
 use lib.ListN.{length-set}
-use mathlib.Core.List.{_∷_}
+use mathlib.Core.List.{[], _∷_}
 use native.Mathlib.Numerals.{towards-suc}
 use native.Mathlib.Omega.{arith}
-use Rattle.model.specs.Certificate.{bytesOf}
+use Rattle.field_write.proofs.Bytes.{byte-fits, two-bytes}
 use Rattle.field_write.proofs.Placed.{placed-sets}
 use Rattle.field_write.proofs.write_head.Statement.{statement}
 use Rattle.field_write.proofs.write_head.Tie as tie
@@ -15,7 +17,7 @@ slice-write-certificate : tie.Need-slice-write-certificate
 slice-write-certificate c = search needs
 
 cast-certificate : tie.Need-cast-certificate
-cast-certificate c = search needs
+cast-certificate c = byte-fits (c .args .size)
 
 add-certificate : tie.Need-add-certificate
 add-certificate c = search needs
@@ -36,8 +38,10 @@ same-length : tie.Need-same-length
 same-length c = search needs
 
 returns : tie.Need-returns
-unfolding bytesOf
-returns c = rw (← placed-sets (c .args .tag ∷ bytesOf 2 (c .args .size)) (now (c .args .certificate)) (c .args .at) (omega arith)) (simp towards-suc)
+returns c =
+    let a = c .args in
+    rw (two-bytes (a .size) (c .fits .size .fits), ← placed-sets (a .tag ∷ bitAnd (a .size) 255 ∷ a .size / 2 ^ 8 ∷ []) (now (a .certificate)) (a .at) (omega arith))
+    (simp towards-suc)
 
 pub write-head-spec : {M : Type 1} → statement M
 write-head-spec =

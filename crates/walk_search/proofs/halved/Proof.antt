@@ -54,8 +54,11 @@ returns c =
     let z : leftIn (l .loop .tally) ≡ 0 = sym (u .left .ensures) ∙ c .if1 .taken in
     (omega (arith, h .left), z, omega (arith, h .left, h .halved))
 
-sub-m : tie.Need-sub-m Inv-loop μ-loop
-sub-m c = search needs
+sub-half : tie.Need-sub-half Inv-loop μ-loop
+sub-half c = search needs
+
+half-requires : tie.Need-half-requires Inv-loop μ-loop
+half-requires c κs = search needs
 
 add-m : tie.Need-add-m Inv-loop μ-loop
 add-m c = search needs
@@ -68,7 +71,7 @@ shared-slice-read-x c = search needs
 
 halved-requires : tie.Need-halved-requires Inv-loop μ-loop
 halved-requires c κs =
-    let e = c .before in
+    let e = c .before .before in
     let u = e .before in
     let l = u .before .before in
     let h = l .loop .inv in
@@ -81,7 +84,8 @@ loop-less c = search needs
 loop-again : tie.Need-loop-again Inv-loop μ-loop
 loop-again c =
     let u = c .before in
-    let l = u .before .before .before .before .before in
+    let m = u .before .before in
+    let l = m .before .before .before .before in
     let a = l .before .before .args in
     let h = l .loop .inv in
     let p = probed (u .halved .result) h (u .halved .ensures) in
@@ -91,7 +95,7 @@ loop-again c =
       made = h .made + 1;
       left = p .0;
       halved = p .1;
-      same = h .same ∙ halve-next-up (h .made) (a .v) (a .s .now) (l .loop .lo) (l .loop .hi) (omega arith) (h .inside) (c .if2 .taken);
+      same = h .same ∙ halve-next-up (h .made) (a .v) (a .s .now) (l .loop .lo) (l .loop .hi) (m .half .result) (m .half .ensures) (omega arith) (h .inside) (c .if2 .taken);
     }
 
 loop-less-2 : tie.Need-loop-less-2 Inv-loop μ-loop
@@ -100,7 +104,8 @@ loop-less-2 c = search needs
 loop-again-2 : tie.Need-loop-again-2 Inv-loop μ-loop
 loop-again-2 c =
     let u = c .before in
-    let l = u .before .before .before .before .before in
+    let m = u .before .before in
+    let l = m .before .before .before .before in
     let a = l .before .before .args in
     let h = l .loop .inv in
     let p = probed (u .halved .result) h (u .halved .ensures) in
@@ -110,7 +115,7 @@ loop-again-2 c =
       made = h .made + 1;
       left = p .0;
       halved = p .1;
-      same = h .same ∙ halve-next-down (h .made) (a .v) (a .s .now) (l .loop .lo) (l .loop .hi) (omega arith) (h .inside) (c .if2 .left);
+      same = h .same ∙ halve-next-down (h .made) (a .v) (a .s .now) (l .loop .lo) (l .loop .hi) (m .half .result) (m .half .ensures) (omega arith) (h .inside) (c .if2 .left);
     }
 
 returns-2 : tie.Need-returns-2 Inv-loop μ-loop
@@ -132,7 +137,8 @@ halved-spec =
     sub-loop
     left-requires
     returns
-    sub-m
+    sub-half
+    half-requires
     add-m
     mul-x
     shared-slice-read-x
