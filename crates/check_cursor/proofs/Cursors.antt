@@ -1,5 +1,5 @@
 -- A cursor's place and bin. Assumes nothing.
-use Prim.Native.Nat.{ℕ, _+_, _-_, _*_, _/_, _^_, _<_}
+use Prim.Native.Nat.{ℕ, _+_, _*_, _/_, _^_, _<_}
 use lib.Bits.{bitAnd, and-mask}
 use mathlib.Core.Path.{_≡_, refl}
 use native.Mathlib.Omega.{arith}

@@ -6,13 +6,13 @@ ghost use Rattle.model.specs.Runs.{slice, firstBin, pastBin};
 ghost use Rattle.model.specs.Walk.{headOf};
 ghost use Rattle.check_cursor.specs.Cursors.{cursorPlaces, placeOf, binOf, Cursors, Begins};
 
-// A cursor's lowest bits, so many, are its place.
+// How many of a cursor's bits, the lowest ones, are its place.
 const PLACE_BITS: u64 = 21;
 
 // A cursor has room for so many places; there are at most half as many numbers.
 pub const PLACES: u64 = 1 << PLACE_BITS;
 
-// As a mask, all bits of a place.
+// As a mask it leaves a cursor's place.
 const LAST_PLACE: u64 = PLACES - 1;
 
 // A cursor of a run: a bin × PLACES + a place. The run has no number that is still uncovered before the place, and the bin is the number at the place, or

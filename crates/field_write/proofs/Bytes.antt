@@ -12,10 +12,6 @@ use native.Mathlib.Nat.{zero-add, pow-suc, pow-succ', div-one, div-div-eq-div-mu
 use native.Mathlib.Omega.{arith}
 use Rattle.model.specs.Certificate.{bytesOf, numberOf}
 
-pow-pos : (m : ℕ) → 0 < 256 ^ m
-pow-pos zero = omega arith
-pow-pos (suc m) = let i = pow-pos m in omega arith
-
 -- ---- bytes by masks and shifts
 
 -- a mask of eight ones leaves a byte
@@ -34,6 +30,10 @@ four-bytes x h =
     rw (and-mask x 8, and-mask (x / 2 ^ 8) 8, and-mask (x / 2 ^ 16) 8, e₂, e₃)
 
 -- ---- the two halves of a number
+
+pow-pos : (m : ℕ) → 0 < 256 ^ m
+pow-pos zero = omega arith
+pow-pos (suc m) = let i = pow-pos m in omega arith
 
 -- the low bytes of a number, and then its high bytes
 bytes-split : (m n x : ℕ) → bytesOf m (x % 256 ^ m) ++ bytesOf n (x / 256 ^ m) ≡ bytesOf (m + n) x

@@ -83,7 +83,7 @@ impl<'a> Iterator for Finished<'a> {
     }
 
     fn size_hint(&self) -> (usize, Option<usize>) {
-        let count = self.results.len() >> 1;
+        let count = self.results.len() / 2;
         (count, Some(count))
     }
 }
