@@ -3,8 +3,9 @@ use Prim.Native.Nat.{ℕ, zero, suc, _+_, _*_, _/_, _%_, _^_, _<_}
 use lib.Arith.{mod-mul}
 use lib.Bits.{bitAnd, and-mask, mask-lt}
 use lib.ListN.{length}
+use lib.Pow.{pow-add}
 use mathlib.Core.List.{List, [], _∷_, _++_}
-use mathlib.Core.Path.{_≡_, sym, ap}
+use mathlib.Core.Path.{_≡_, refl, sym, ap}
 use mir.Facts.{fits-bits}
 use mir.Syntax.{w8}
 use mir.Val.{Fits}
@@ -18,16 +19,22 @@ use Rattle.model.specs.Certificate.{bytesOf, numberOf}
 pub byte-fits : (x : ℕ) → Fits w8 (bitAnd x 255)
 byte-fits x = fits-bits 8 tt (mask-lt x 8)
 
-pub two-bytes : (x : ℕ) → x < 2 ^ 16 → bytesOf 2 x ≡ bitAnd x 255 ∷ x / 2 ^ 8 ∷ []
-unfolding bytesOf
-two-bytes x h = let e : x / 256 % 256 ≡ x / 2 ^ 8 = omega arith in rw (and-mask x 8, e)
+-- w bytes of a number from its bit i on
+unfoldable pub bytesFrom : ℕ → ℕ → ℕ → List ℕ
+bytesFrom i zero x = []
+bytesFrom i (suc w) x = bitAnd (x / 2 ^ i) 255 ∷ bytesFrom (i + 8) w x
 
-pub four-bytes : (x : ℕ) → x < 2 ^ 32 → bytesOf 4 x ≡ bitAnd x 255 ∷ bitAnd (x / 2 ^ 8) 255 ∷ bitAnd (x / 2 ^ 16) 255 ∷ x / 2 ^ 24 ∷ []
+from-shifted : (i w x : ℕ) → bytesFrom i w x ≡ bytesOf w (x / 2 ^ i)
+unfolding bytesFrom bytesOf
+from-shifted i zero x = refl
+from-shifted i (suc w) x =
+    let e : x / 2 ^ i / 256 ≡ x / 2 ^ (i + 8) = rw (pow-add 2 i 8) (div-div-eq-div-mul x (2 ^ i) 256) in
+    rw (and-mask (x / 2 ^ i) 8, from-shifted (i + 8) w x, e)
+
+-- a number of one byte more: its first byte takes no shift
+pub by-masks : (w x : ℕ) → bytesOf (suc w) x ≡ bitAnd x 255 ∷ bytesFrom 8 w x
 unfolding bytesOf
-four-bytes x h =
-    let e₂ : x / 256 / 256 % 256 ≡ x / 2 ^ 16 % 256 = omega arith in
-    let e₃ : x / 256 / 256 / 256 % 256 ≡ x / 2 ^ 24 = omega arith in
-    rw (and-mask x 8, and-mask (x / 2 ^ 8) 8, and-mask (x / 2 ^ 16) 8, e₂, e₃)
+by-masks w x = rw (and-mask x 8, from-shifted 8 w x)
 
 -- ---- the two halves of a number
 

@@ -19,7 +19,7 @@ fn write_head(certificate: &mut [u8], at: usize, tag: u8, size: u16)
 {
     certificate[at] = tag;
     certificate[at + 1] = (size & 255) as u8;
-    certificate[at + 2] = (size >> 8) as u8;
+    certificate[at + 2] = ((size >> 8) & 255) as u8;
 }
 
 // Writes a number in four bytes, the lowest first.
@@ -30,7 +30,7 @@ fn write_u32(certificate: &mut [u8], at: usize, x: u32)
     certificate[at] = (x & 255) as u8;
     certificate[at + 1] = ((x >> 8) & 255) as u8;
     certificate[at + 2] = ((x >> 16) & 255) as u8;
-    certificate[at + 3] = (x >> 24) as u8;
+    certificate[at + 3] = ((x >> 24) & 255) as u8;
 }
 
 // Writes a number in eight bytes, the lowest first.

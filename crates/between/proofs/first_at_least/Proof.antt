@@ -16,6 +16,13 @@ Inv-loop list v lo₀ hi₀ lo hi = (lo ≤ rank v list) × ((rank v list ≤ hi
 abbrev μ-loop : tie.MeasureT-loop
 μ-loop list v lo₀ hi₀ lo hi = hi - lo
 
+-- a turn's half, and its start
+abbrev half-of : tie.After-u64-of-u32 Inv-loop μ-loop → tie.After-half Inv-loop μ-loop
+half-of c = c .before .before
+
+abbrev loop-of : tie.After-half Inv-loop μ-loop → tie.At-loop Inv-loop μ-loop
+loop-of c = c .before .before
+
 loop-holds : tie.Need-loop-holds Inv-loop μ-loop
 loop-holds c = let r = rank-le (c .before .args .v) (now (c .before .args .list)) in omega arith
 
@@ -45,8 +52,8 @@ loop-less c = omega arith
 
 loop-again : tie.Need-loop-again Inv-loop μ-loop
 loop-again c =
-    let m = c .before .before .before in
-    let at = m .before .before in
+    let m = half-of (c .before) in
+    let at = loop-of m in
     let a = at .before .before .args in
     let mid = at .loop .lo + m .half .result in
     let e = c .before .u64-of-u32 .ensures in
@@ -58,8 +65,8 @@ loop-less-2 c = omega arith
 
 loop-again-2 : tie.Need-loop-again-2 Inv-loop μ-loop
 loop-again-2 c =
-    let m = c .before .before .before in
-    let at = m .before .before in
+    let m = half-of (c .before) in
+    let at = loop-of m in
     let a = at .before .before .args in
     let mid = at .loop .lo + m .half .result in
     let p = place-high (a .v) (now (a .list)) mid (omega arith) in

@@ -5,10 +5,10 @@ use borrow.Author.Needs.{needs}
 use denote.Ref.{now}
 use lib.Bits.{bitAnd}
 use lib.ListN.{length-set}
-use mathlib.Core.List.{[], _∷_}
+use mathlib.Core.List.{_∷_}
 use native.Mathlib.Numerals.{towards-suc}
 use native.Mathlib.Omega.{arith}
-use Rattle.field_write.proofs.Bytes.{byte-fits, two-bytes}
+use Rattle.field_write.proofs.Bytes.{byte-fits, bytesFrom, by-masks}
 use Rattle.field_write.proofs.Placed.{placed-sets}
 use Rattle.field_write.proofs.write_head.Statement.{statement}
 use Rattle.field_write.proofs.write_head.Tie as tie
@@ -26,7 +26,7 @@ slice-write-certificate-2 : tie.Need-slice-write-certificate-2
 slice-write-certificate-2 c = simp length-set (omega arith)
 
 cast-certificate-2 : tie.Need-cast-certificate-2
-cast-certificate-2 c = search needs
+cast-certificate-2 c = byte-fits (c .args .size / 2 ^ 8)
 
 add-certificate-2 : tie.Need-add-certificate-2
 add-certificate-2 c = search needs
@@ -38,10 +38,10 @@ same-length : tie.Need-same-length
 same-length c = search needs
 
 returns : tie.Need-returns
+unfolding bytesFrom
 returns c =
     let a = c .args in
-    rw (two-bytes (a .size) (c .fits .size .fits), ← placed-sets (a .tag ∷ bitAnd (a .size) 255 ∷ a .size / 2 ^ 8 ∷ []) (now (a .certificate)) (a .at) (omega arith))
-    (simp towards-suc)
+    rw (by-masks 1 (a .size), ← placed-sets (a .tag ∷ bitAnd (a .size) 255 ∷ bytesFrom 8 1 (a .size)) (now (a .certificate)) (a .at) (omega arith)) (simp towards-suc)
 
 pub write-head-spec : {M : Type 1} → statement M
 write-head-spec =

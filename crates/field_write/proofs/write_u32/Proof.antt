@@ -5,10 +5,10 @@ use borrow.Author.Needs.{needs}
 use denote.Ref.{now}
 use lib.Bits.{bitAnd}
 use lib.ListN.{length-set}
-use mathlib.Core.List.{[], _∷_}
+use mathlib.Core.List.{_∷_}
 use native.Mathlib.Numerals.{towards-suc}
 use native.Mathlib.Omega.{arith}
-use Rattle.field_write.proofs.Bytes.{byte-fits, four-bytes}
+use Rattle.field_write.proofs.Bytes.{byte-fits, bytesFrom, by-masks}
 use Rattle.field_write.proofs.Placed.{placed-sets}
 use Rattle.field_write.proofs.write_u32.Statement.{statement}
 use Rattle.field_write.proofs.write_u32.Tie as tie
@@ -38,7 +38,7 @@ slice-write-certificate-3 : tie.Need-slice-write-certificate-3
 slice-write-certificate-3 c = simp length-set (omega arith)
 
 cast-certificate-4 : tie.Need-cast-certificate-4
-cast-certificate-4 c = search needs
+cast-certificate-4 c = byte-fits (c .args .x / 2 ^ 24)
 
 add-certificate-3 : tie.Need-add-certificate-3
 add-certificate-3 c = search needs
@@ -50,11 +50,10 @@ same-length : tie.Need-same-length
 same-length c = search needs
 
 returns : tie.Need-returns
+unfolding bytesFrom
 returns c =
     let a = c .args in
-    let e = four-bytes (a .x) (c .fits .x .fits) in
-    rw (e, ← placed-sets (bitAnd (a .x) 255 ∷ bitAnd (a .x / 2 ^ 8) 255 ∷ bitAnd (a .x / 2 ^ 16) 255 ∷ a .x / 2 ^ 24 ∷ []) (now (a .certificate)) (a .at) (omega arith))
-    (simp towards-suc)
+    rw (by-masks 3 (a .x), ← placed-sets (bitAnd (a .x) 255 ∷ bytesFrom 8 3 (a .x)) (now (a .certificate)) (a .at) (omega arith)) (simp towards-suc)
 
 pub write-u32-spec : {M : Type 1} → statement M
 write-u32-spec =

@@ -32,6 +32,13 @@ Inv-loop s v from to before lo₀ hi₀ tally₀ lo hi tally = Here s v from to 
 abbrev μ-loop : tie.MeasureT-loop
 μ-loop s v from to before lo₀ hi₀ tally₀ lo hi tally = hi - lo
 
+-- a turn's half, and its start
+abbrev half-of : tie.After-halved Inv-loop μ-loop → tie.After-half Inv-loop μ-loop
+half-of c = c .before .before
+
+abbrev loop-of : tie.After-half Inv-loop μ-loop → tie.At-loop Inv-loop μ-loop
+loop-of c = c .before .before .before .before
+
 loop-holds : tie.Need-loop-holds Inv-loop μ-loop
 loop-holds c =
     let p = c .before .pre in
@@ -72,11 +79,10 @@ shared-slice-read-x c = search needs
 halved-requires : tie.Need-halved-requires Inv-loop μ-loop
 halved-requires c κs =
     let e = c .before .before in
-    let u = e .before in
-    let l = u .before .before in
+    let l = loop-of (c .before) in
     let h = l .loop .inv in
     let p = l .before .before .pre in
-    (omega (arith, u .left .ensures, e .if1 .left), omega (arith, h .left, h .halved, p .2))
+    (omega (arith, e .before .left .ensures, e .if1 .left), omega (arith, h .left, h .halved, p .2))
 
 loop-less : tie.Need-loop-less Inv-loop μ-loop
 loop-less c = search needs
@@ -84,8 +90,8 @@ loop-less c = search needs
 loop-again : tie.Need-loop-again Inv-loop μ-loop
 loop-again c =
     let u = c .before in
-    let m = u .before .before in
-    let l = m .before .before .before .before in
+    let m = half-of u in
+    let l = loop-of m in
     let a = l .before .before .args in
     let h = l .loop .inv in
     let p = probed (u .halved .result) h (u .halved .ensures) in
@@ -104,8 +110,8 @@ loop-less-2 c = search needs
 loop-again-2 : tie.Need-loop-again-2 Inv-loop μ-loop
 loop-again-2 c =
     let u = c .before in
-    let m = u .before .before in
-    let l = m .before .before .before .before in
+    let m = half-of u in
+    let l = loop-of m in
     let a = l .before .before .args in
     let h = l .loop .inv in
     let p = probed (u .halved .result) h (u .halved .ensures) in
