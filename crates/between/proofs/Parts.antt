@@ -1,4 +1,4 @@
--- The part of a rising list between two numbers stands from the rank of the first on, or of the first bin where that is greater, and before the rank of the
+-- The part of a list in order between two numbers stands from the rank of the first on, or of the first bin where that is greater, and before the rank of the
 -- number after the last. Assumes nothing.
 use Prim.Native.Nat.{ℕ, suc, _+_, _-_, _≤_, _<_}
 use borrow.Author.Tests.{lt-ltb, le-ltb, le-leb, lt-leb}
@@ -8,14 +8,16 @@ use mathlib.Core.Logic.{⊎-elim}
 use mathlib.Core.Option.{none, some}
 use mathlib.Core.Path.{_≡_, refl, sym, ap, _∙_}
 use native.Mathlib.Omega.{arith}
-use Rattle.model.specs.Rows.{Rise, rise-nil, rise-cons, rank}
+use Rattle.model.specs.Rows.{Ordered, ordered-nil, ordered-cons}
 use Rattle.arith.proofs.Order.{greater-below, greater-from}
 use Rattle.arith.specs.Order.{greater}
-use Rattle.model.proofs.From.{from-nil, from-pass, from-stop, rank-nil, rank-pass, rank-stop, rank-le, rise-from}
+use Rattle.model.proofs.From.{from-nil, from-pass, from-stop, rank-nil, rank-pass, rank-stop, rank-le}
+use Rattle.model.proofs.FirstChecks.{run-ordered}
+use Rattle.model.proofs.Ordered.{ordered-from}
 use Rattle.model.proofs.Tests.{lt-or-le}
 use Rattle.model.proofs.Unmapped.{first-is}
 use Rattle.model.specs.Between.{within, between}
-use Rattle.model.specs.Runs.{firstBin, from, unrisen}
+use Rattle.model.specs.Runs.{firstBin, from, rank, unrisenRun}
 use Rattle.between.specs.Places.{Spans}
 
 -- ---- the part between two numbers
@@ -38,15 +40,15 @@ module _ (first last : ℕ) (h : first ≤ last + 1) where
   within-nil = refl
 
   -- above the last there is nothing
-  within-none : {a : ℕ} {s : List ℕ} → Rise a s → last < a → within first last s ≡ []
-  within-none rise-nil l = within-nil
-  within-none (rise-cons {x = x} {s = s} m u r) l =
+  within-none : {a : ℕ} {s : List ℕ} → Ordered a s → last < a → within first last s ≡ []
+  within-none ordered-nil l = within-nil
+  within-none (ordered-cons {x = x} {s = s} m r) l =
       let n : last < x = omega arith in rw (within-above x s n) (within-none r (omega arith))
 
   -- from the first on it is a front of the list
-  within-front : {a : ℕ} {s : List ℕ} → Rise a s → first ≤ a → within first last s ≡ take (rank (last + 1) s) s
-  within-front rise-nil l = rw (within-nil, rank-nil (last + 1))
-  within-front (rise-cons {x = x} {s = s} m u r) l =
+  within-front : {a : ℕ} {s : List ℕ} → Ordered a s → first ≤ a → within first last s ≡ take (rank (last + 1) s) s
+  within-front ordered-nil l = rw (within-nil, rank-nil (last + 1))
+  within-front (ordered-cons {x = x} {s = s} m r) l =
       ⊎-elim
       (λ (q : x < last + 1).
       let n : first ≤ x = omega arith in
@@ -56,10 +58,10 @@ module _ (first last : ℕ) (h : first ≤ last + 1) where
       let n : last < x = omega arith in rw (within-above x s n, rank-stop (last + 1) x s q) (within-none r (omega arith)))
       (lt-or-le x (last + 1))
 
-  pub within-part : {a : ℕ} {s : List ℕ} → Rise a s
+  pub within-part : {a : ℕ} {s : List ℕ} → Ordered a s
       → take (rank (last + 1) s - rank first s) (drop (rank first s) s) ≡ within first last s
-  within-part rise-nil = rw (within-nil, rank-nil (last + 1), rank-nil first)
-  within-part (rise-cons {x = x} {s = s} m u r) =
+  within-part ordered-nil = rw (within-nil, rank-nil (last + 1), rank-nil first)
+  within-part (ordered-cons {x = x} {s = s} m r) =
       ⊎-elim
       (λ (q : x < first).
       let o : x < last + 1 = omega arith in
@@ -67,7 +69,7 @@ module _ (first last : ℕ) (h : first ≤ last + 1) where
       rw (within-below x s q, rank-pass first x s q, rank-pass (last + 1) x s o, e) (within-part r))
       (λ (q : first ≤ x).
       let e : rank (last + 1) (x ∷ s) - 0 ≡ rank (last + 1) (x ∷ s) = omega arith in
-      rw (rank-stop first x s q, e) (sym (within-front (rise-cons q u r) (omega arith))))
+      rw (rank-stop first x s q, e) (sym (within-front (ordered-cons q r) (omega arith))))
       (lt-or-le x first)
 
 -- numbers below the first may be passed over before
@@ -80,10 +82,10 @@ within-passed first last v (x ∷ s) h l =
     (lt-or-le x v)
 
 -- where no number is below b, the part from a number not above b on is the part from b on
-within-rise : (first last b : ℕ) {a : ℕ} {s : List ℕ} → first ≤ b → b ≤ last + 1 → Rise a s → b ≤ a → within first last s ≡ within b last s
-within-rise first last b l h rise-nil k = within-nil first last (omega arith) ∙ sym (within-nil b last h)
-within-rise first last b l h (rise-cons {x = x} {s = s} m u r) k =
-    let rest = within-rise first last b l h r (omega arith) in
+within-least : (first last b : ℕ) {a : ℕ} {s : List ℕ} → first ≤ b → b ≤ last + 1 → Ordered a s → b ≤ a → within first last s ≡ within b last s
+within-least first last b l h ordered-nil k = within-nil first last (omega arith) ∙ sym (within-nil b last h)
+within-least first last b l h (ordered-cons {x = x} {s = s} m r) k =
+    let rest = within-least first last b l h r (omega arith) in
     ⊎-elim
     (λ (q : last < x).
     within-above first last (omega arith) x s q ∙ (rest ∙ sym (within-above b last h x s q)))
@@ -91,8 +93,8 @@ within-rise first last b l h (rise-cons {x = x} {s = s} m u r) k =
     within-in first last (omega arith) x s (omega arith) q ∙ (ap (λ (t : List ℕ). x ∷ t) rest ∙ sym (within-in b last h x s (omega arith) q)))
     (lt-or-le last x)
 
--- the bins of a rising list from the first to the last are its numbers from the greater of the first and the first bin on
-within-bins : (first last : ℕ) {a : ℕ} (s : List ℕ) → Rise a s → first ≤ last
+-- the bins of a list in order from the first to the last are its numbers from the greater of the first and the first bin on
+within-bins : (first last : ℕ) {a : ℕ} (s : List ℕ) → Ordered a s → first ≤ last
     → (greater first firstBin ≤ last + 1) × (within first last (from firstBin s) ≡ within (greater first firstBin) last s)
 within-bins first last s r h =
     let f = first-is in
@@ -100,7 +102,7 @@ within-bins first last s r h =
     (λ (q : first < firstBin).
     rw (greater-below first firstBin q) (
       omega arith,
-      within-rise first last firstBin (omega arith) (omega arith) (rise-from firstBin s r) (omega arith)
+      within-least first last firstBin (omega arith) (omega arith) (ordered-from firstBin s r) (omega arith)
           ∙ within-passed firstBin last firstBin s (omega arith) (omega arith),
     ))
     (λ (q : firstBin ≤ first). rw (greater-from first firstBin q) (omega arith, within-passed first last firstBin s (omega arith) q))
@@ -120,19 +122,20 @@ module _ (first last : ℕ) (s : List ℕ) where
   unfolding between
   between-none h = rw (lt-ltb last first h, between)
 
-  pub between-unrisen : (i : ℕ) → first ≤ last → unrisen 0 s ≡ some i → between first last s ≡ []
+  pub between-unrisen : (i : ℕ) → first ≤ last → unrisenRun 0 s ≡ some i → between first last s ≡ []
   unfolding between
   between-unrisen i h e = rw (le-ltb last first h, e, between)
 
-  between-risen : first ≤ last → unrisen 0 s ≡ none → between first last s ≡ within first last (from firstBin s)
+  between-risen : first ≤ last → unrisenRun 0 s ≡ none → between first last s ≡ within first last (from firstBin s)
   unfolding between
   between-risen h e = rw (le-ltb last first h, e, between)
 
   pub spans-none : between first last s ≡ [] → Spans first last s (record { start = 0; end = 0 })
   spans-none e = record { ordered = omega arith; inside = omega arith; part = sym e }
 
-  pub spans-ranks : first ≤ last → unrisen 0 s ≡ none → Rise 0 s → Spans first last s (record { start = rank (greater first firstBin) s; end = rank (last + 1) s })
-  spans-ranks h e r =
+  pub spans-ranks : first ≤ last → unrisenRun 0 s ≡ none → Spans first last s (record { start = rank (greater first firstBin) s; end = rank (last + 1) s })
+  spans-ranks h e =
+      let r = run-ordered 0 s e in
       let b = within-bins first last s r h in
       record {
         ordered = rank-mono (greater first firstBin) (last + 1) s (b .0);

@@ -32,18 +32,22 @@ fn main() {
     print_part(&ends, 4294967295, 4294967295);
     print_part(&ends, 0, 4294967295);
     print_part(&ends, 2, 4294967294);
-    // a 0 at the start is the unmapped mark and never shown
+    // a 0 at the start is the unmapped mark and never shown, however many there are
     let marked = [0u32, 3, 5];
     print_part(&marked, 0, 3);
     print_part(&marked, 0, 0);
     print_part(&marked, 4, 4294967295);
+    let marked_more = [0u32, 0, 0, 3];
+    print_part(&marked_more, 0, 9);
+    let marks_only = [0u32, 0];
+    print_part(&marks_only, 0, 4294967295);
     // lists that do not rise
     let falling = [2u32, 9, 5, 12];
     print_part(&falling, 2, 12);
     let equal = [3u32, 3];
     print_part(&equal, 3, 3);
-    let marked_twice = [0u32, 0, 5];
-    print_part(&marked_twice, 0, 5);
+    let mark_further_on = [0u32, 0, 5, 0];
+    print_part(&mark_further_on, 0, 5);
     // the empty list
     let nothing = [0u32; 0];
     print_part(&nothing, 0, 4294967295);

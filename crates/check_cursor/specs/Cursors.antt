@@ -6,6 +6,7 @@ use lib.ListN.{length, getD}
 use Rattle.model.specs.Rows.{Rise}
 use Rattle.model.specs.Runs.{Run, firstBin, slice, from, mostNumbers, mostRuns}
 use Rattle.model.specs.Walk.{headOf}
+use Rattle.first_bin.specs.Lent.{LentAt}
 
 -- where run i starts, its numbers as they are lent, and its bins
 abbrev pub startOf : List ℕ → ℕ → ℕ
@@ -51,7 +52,6 @@ pub record Cursors (numbers ends cursors : List ℕ) (b : ℕ) : Type 0 where
 pub record Begins (numbers ends cursors : List ℕ) : Type 0 where
   pub few : length ends ≤ mostRuns
   pub short : length numbers ≤ mostNumbers
-  pub starts : (i : ℕ) → i < length ends → startOf ends i ≤ getD ends i 0
-  pub inside : (i : ℕ) → i < length ends → getD ends i 0 ≤ length numbers
-  pub risen : (i : ℕ) → i < length ends → Rise 0 (lentOf numbers ends i)
+  pub lent : (i : ℕ) → i < length ends → LentAt numbers (startOf ends i) (getD ends i 0)
+  pub risen : (i : ℕ) → i < length ends → Rise firstBin (binsOf numbers ends i)
   pub lengths : length cursors ≡ length ends

@@ -47,7 +47,7 @@ pub fn number_at(numbers: &[u32], place: usize, end: usize) -> u64
     limits::PAST_BIN
 }
 
-// Puts each run's cursor at its first number. A 0 there is below every bin, so it is passed with the numbers before the first part.
+// Puts each run's cursor at its first bin: zeros at its start are passed over here, once for all parts.
 pub fn begin(numbers: &[u32], ends: &[u32], cursors: &mut [u64])
     requires { ⌜ Begins (now numbers) (now ends) (now cursors) ⌝ }
     ensures { λ _. ⌜ Cursors (now (numbers .entry)) (now (ends .entry)) (now (cursors .exit)) firstBin ⌝ }
@@ -56,7 +56,8 @@ pub fn begin(numbers: &[u32], ends: &[u32], cursors: &mut [u64])
     let mut i: usize = 0;
     while i < ends.len() {
         let end = arith::usize_of_u32(ends[i]);
-        cursors[i] = cursor_at(number_at(numbers, start, end), start);
+        let first = first_bin::first_place(numbers, start, end);
+        cursors[i] = cursor_at(number_at(numbers, first, end), first);
         start = end;
         i += 1;
     }

@@ -9,7 +9,7 @@ use mathlib.Core.Path.{_≡_, sym, ap, _∙_}
 use native.Mathlib.Numerals.{add-one}
 use native.Mathlib.Omega.{arith}
 use Rattle.model.specs.Refusals.{fallsFrom, lastEnd, unrisenIn}
-use Rattle.model.specs.Runs.{slice, unrisen}
+use Rattle.model.specs.Runs.{slice, unrisenRun}
 use Rattle.model.proofs.FirstChecks.{not-fallen, end-last, not-unrisen}
 
 -- ---- the ends
@@ -53,18 +53,18 @@ next-ordered numbers ends a i l o =
 
 -- where no number is out of order in the runs from i on: in run i none is, nor in the others
 pub next-risen : (numbers ends : List ℕ) (a i : ℕ) → i < length ends → unrisenIn a numbers (drop i ends) ≡ none
-    → (unrisen a (slice numbers a (getD ends i 0)) ≡ none) × (unrisenIn (getD ends i 0) numbers (drop (i + 1) ends) ≡ none)
+    → (unrisenRun a (slice numbers a (getD ends i 0)) ≡ none) × (unrisenIn (getD ends i 0) numbers (drop (i + 1) ends) ≡ none)
 next-risen numbers ends a i l e =
     rw (add-one i) (not-unrisen a (getD ends i 0) numbers (drop (suc i) ends) (rw (drop-cons ends i 0 l) at e))
 
 -- ---- the runs, one after another
 
-pub runs-at : (numbers ends : List ℕ) (a i p : ℕ) → i < length ends → unrisen a (take (getD ends i 0 - a) (drop a numbers)) ≡ some p
+pub runs-at : (numbers ends : List ℕ) (a i p : ℕ) → i < length ends → unrisenRun a (take (getD ends i 0 - a) (drop a numbers)) ≡ some p
     → unrisenIn a numbers (drop i ends) ≡ some p
 unfolding unrisenIn
 runs-at numbers ends a i p l e = rw (drop-cons ends i 0 l) (rw (e, unrisenIn))
 
-pub runs-on : (numbers ends : List ℕ) (a i : ℕ) → i < length ends → unrisen a (take (getD ends i 0 - a) (drop a numbers)) ≡ none
+pub runs-on : (numbers ends : List ℕ) (a i : ℕ) → i < length ends → unrisenRun a (take (getD ends i 0 - a) (drop a numbers)) ≡ none
     → unrisenIn a numbers (drop i ends) ≡ unrisenIn (getD ends i 0) numbers (drop (i + 1) ends)
 unfolding unrisenIn
 runs-on numbers ends a i l e = rw (drop-cons ends i 0 l, add-one i) (rw (e, unrisenIn))

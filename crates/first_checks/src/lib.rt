@@ -34,7 +34,7 @@ fn falling_end(ends: &[u32]) -> Found
     Found::Nothing
 }
 
-// The first number that is not above the one before in its run, where the ends are in order and the last is the length.
+// The first number that is not above the one before in its run, zeros at the run's start passed over. The ends are in order, and the last is the length.
 fn unrisen_number(numbers: &[u32], ends: &[u32]) -> Found
     requires { ⌜ (fallsFrom 0 0 (now ends) ≡ none) × (lastEnd 0 (now ends) ≡ length (now numbers)) ⌝ }
     ensures { λ r. ⌜ foundPlace r ≡ unrisenIn 0 (now (numbers .entry)) (now (ends .entry)) ⌝ }

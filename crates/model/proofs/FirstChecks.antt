@@ -1,7 +1,7 @@
 -- Lists and a threshold that pass the first checks: the runs rise, are labelled from 0 on, and can meet the threshold; their number is at most 64. So it is
 -- for the runs that a mask chooses, of which all runs are a case.
 -- Assumes nothing.
-use Prim.Native.Nat.{ℕ, zero, suc, _-_, _/_, _^_, _≤_, _<_}
+use Prim.Native.Nat.{ℕ, zero, suc, _+_, _-_, _/_, _^_, _≤_, _<_}
 use borrow.Author.Tests.{ltb-false, eqb-false, lt-ltb, le-ltb, eq-eqb, ne-eqb}
 use lib.Count.{ones, ones-ones}
 use lib.Dec.{ltb, eqb}
@@ -16,9 +16,9 @@ use native.Mathlib.Nat.{div-eq-of-lt, div-lt-iff-lt-mul, one-mul}
 use native.Mathlib.Omega.{arith}
 use Rattle.model.specs.Demands.{Fits}
 use Rattle.model.specs.Refusals.{Check, passed, refusal, _then_, refuseIf, refuseAt, fallsFrom, lastEnd, unrisenIn, countCheck, thresholdCheck, listChecks, maskCheck, firstChecks, chosenChecks}
-use Rattle.model.specs.Runs.{firstBin, pastBin, slice, from, runsFrom, runs, chosen, unrisenAfter, unrisen, mostNumbers, mostRuns}
-use Rattle.model.specs.Rows.{Rise, rise-nil, rise-cons}
-use Rattle.model.proofs.From.{rise-from}
+use Rattle.model.specs.Runs.{firstBin, pastBin, slice, from, runsFrom, runs, chosen, rank, unrisenAfter, unrisen, unrisenRun, mostNumbers, mostRuns}
+use Rattle.model.specs.Rows.{Rise, rise-nil, rise-cons, Ordered, ordered-nil, ordered-cons}
+use Rattle.model.proofs.From.{from-pass, from-stop, rise-from, from-from, from-mem}
 use Rattle.model.proofs.Masks.{Labelled, labelled-nil, labelled-cons, ascending}
 use Rattle.model.proofs.Chosen.{chosen-ascending, chosen-rising, chosen-all, ones-chosen}
 use Rattle.model.proofs.Tests.{lt-or-le, or-false}
@@ -69,7 +69,7 @@ drop-mem zero s m = m
 drop-mem (suc n) [] m = m
 drop-mem (suc n) (y ∷ s) m = List·Memᴰ·tail (drop-mem n s m)
 
-slice-fits : (w a e : ℕ) (numbers : List ℕ) → Fits w numbers → Fits w (slice numbers a e)
+pub slice-fits : (w a e : ℕ) (numbers : List ℕ) → Fits w numbers → Fits w (slice numbers a e)
 slice-fits w a e numbers h = record { each = λ x k. h .each x (drop-mem a numbers (take-mem (e - a) (drop a numbers) k)) }
 
 -- where no number after x is out of order, the first of them is above x, and none after that is out of order
@@ -82,47 +82,73 @@ after-next i x y s e =
     (lt-or-le x y)
 
 -- a list in which no number is out of order rises
-pub risen-after : (i x : ℕ) (s : List ℕ) → unrisenAfter i x s ≡ none → Fits pastBin s → Rise (suc x) s
+risen-after : (i x : ℕ) (s : List ℕ) → unrisenAfter i x s ≡ none → Fits pastBin s → Rise (suc x) s
 risen-after i x [] e h = rise-nil
 risen-after i x (y ∷ s) e h =
     let n = after-next i x y s e in
     rise-cons (n .0) (h .each y (List·Memᴰ·head refl)) (risen-after (suc i) y s (n .1) (record { each = λ z m. h .each z (List·Memᴰ·tail m) }))
 
-pub risen : (i : ℕ) (s : List ℕ) → unrisen i s ≡ none → Fits pastBin s → Rise 0 s
+risen : (i : ℕ) (s : List ℕ) → unrisen i s ≡ none → Fits pastBin s → Rise 0 s
 unfolding unrisen
 risen i [] e h = rise-nil
 risen i (x ∷ s) e h =
     let z : 0 ≤ x = omega arith in
     rise-cons z (h .each x (List·Memᴰ·head refl)) (risen-after i x s e (record { each = λ y m. h .each y (List·Memᴰ·tail m) }))
 
--- Where no number is out of order in its run as it is lent: in the first run none is, nor in the others.
+-- A run that rises as it is lent, zeros at its start passed over: its bins rise, and its numbers are in order.
+pub bins-rise : (i : ℕ) (s : List ℕ) → unrisenRun i s ≡ none → Fits pastBin s → Rise firstBin (from firstBin s)
+unfolding unrisenRun
+bins-rise i s e h =
+    let r = risen (i + rank firstBin s) (from firstBin s) e (record { each = λ x m. h .each x (from-mem firstBin s m) }) in
+    subst (λ l. Rise firstBin l) (from-from firstBin firstBin s (omega arith)) (rise-from firstBin (from firstBin s) r)
+
+ordered-after : (i x : ℕ) (s : List ℕ) → unrisenAfter i x s ≡ none → Ordered x s
+ordered-after i x [] e = ordered-nil
+ordered-after i x (y ∷ s) e = let n = after-next i x y s e in let l : x ≤ y = omega (arith, n .0) in ordered-cons l (ordered-after (suc i) y s (n .1))
+
+zeros-ordered : (i : ℕ) (s : List ℕ) → unrisen i (from firstBin s) ≡ none → Ordered 0 s
+unfolding firstBin unrisen
+zeros-ordered i [] e = ordered-nil
+zeros-ordered i (x ∷ s) e =
+    ⊎-elim
+    (λ (q : x < 1).
+    let z : 0 ≡ x = omega arith in
+    ordered-cons (omega arith) (subst (λ y. Ordered y s) z (zeros-ordered i s (sym (ap (unrisen i) (from-pass firstBin x s q)) ∙ e))))
+    (λ (q : 1 ≤ x). ordered-cons (omega arith) (ordered-after i x s (sym (ap (unrisen i) (from-stop firstBin x s q)) ∙ e)))
+    (lt-or-le x 1)
+
+pub run-ordered : (i : ℕ) (s : List ℕ) → unrisenRun i s ≡ none → Ordered 0 s
+unfolding unrisenRun
+run-ordered i s e = zeros-ordered (i + rank firstBin s) s e
+
+-- Where no number is out of order in its run: in the first run none is, nor in the others.
 pub not-unrisen : (a e : ℕ) (numbers ends : List ℕ) → unrisenIn a numbers (e ∷ ends) ≡ none
-    → (unrisen a (slice numbers a e) ≡ none) × (unrisenIn e numbers ends ≡ none)
+    → (unrisenRun a (slice numbers a e) ≡ none) × (unrisenIn e numbers ends ≡ none)
 unfolding unrisenIn
-not-unrisen a e numbers ends h = go (unrisen a (slice numbers a e)) refl
+not-unrisen a e numbers ends h = go (unrisenRun a (slice numbers a e)) refl
   where
-    go : (o : Option ℕ) → unrisen a (slice numbers a e) ≡ o → (unrisen a (slice numbers a e) ≡ none) × (unrisenIn e numbers ends ≡ none)
+    go : (o : Option ℕ) → unrisenRun a (slice numbers a e) ≡ o → (unrisenRun a (slice numbers a e) ≡ none) × (unrisenIn e numbers ends ≡ none)
     go none k = (k, rw (k, unrisenIn) at h)
     go (some i) k = let z : some i ≡ none = rw (k, unrisenIn) at h in absurd (let w : _≡_ {A = ℕ} 0 1 = cc in omega arith)
 
--- So each run as it is lent rises, and the bins of each rise.
-pub lists-rise : (a : ℕ) (numbers ends : List ℕ) → unrisenIn a numbers ends ≡ none → Fits pastBin numbers → (i : ℕ) → i < length ends
-    → Rise 0 (slice numbers (getD (a ∷ ends) i 0) (getD ends i 0))
-lists-rise a numbers [] h f i l = absurd (omega arith)
-lists-rise a numbers (e ∷ ends) h f zero l = risen a (slice numbers a e) (not-unrisen a e numbers ends h .0) (slice-fits pastBin a e numbers f)
-lists-rise a numbers (e ∷ ends) h f (suc i) l = lists-rise e numbers ends (not-unrisen a e numbers ends h .1) f i (omega arith)
+-- So each run rises as it is lent, and the bins of each rise.
+pub lists-rise : (a : ℕ) (numbers ends : List ℕ) → unrisenIn a numbers ends ≡ none → (i : ℕ) → i < length ends
+    → unrisenRun (getD (a ∷ ends) i 0) (slice numbers (getD (a ∷ ends) i 0) (getD ends i 0)) ≡ none
+lists-rise a numbers [] h i l = absurd (omega arith)
+lists-rise a numbers (e ∷ ends) h zero l = not-unrisen a e numbers ends h .0
+lists-rise a numbers (e ∷ ends) h (suc i) l = lists-rise e numbers ends (not-unrisen a e numbers ends h .1) i (omega arith)
 
 all-risen : (i a : ℕ) (numbers ends : List ℕ) → unrisenIn a numbers ends ≡ none → Fits pastBin numbers → Rising (runsFrom i a numbers ends)
 unfolding runsFrom
 all-risen i a numbers [] h f = record { each = λ r m. absurd (List·Memᴰ·not-nil m) }
 all-risen i a numbers (e ∷ ends) h f =
     let n = not-unrisen a e numbers ends h in
-    let s = risen a (slice numbers a e) (n .0) (slice-fits pastBin a e numbers f) in
+    let s = bins-rise a (slice numbers a e) (n .0) (slice-fits pastBin a e numbers f) in
     let others = all-risen (suc i) e numbers ends (n .1) f in
     record {
       each = λ r m.
           ⊎-elim
-          (λ (q : r ≡ record { label = i; bins = from firstBin (slice numbers a e) }). rw q (rise-from firstBin (slice numbers a e) s))
+          (λ (q : r ≡ record { label = i; bins = from firstBin (slice numbers a e) }). rw q s)
           (λ k. others .each r k)
           (List·Memᴰ·cases-cons m);
     }

@@ -9,10 +9,10 @@ use mathlib.Core.List.{List, [], _∷_, List·Memᴰ, List·Memᴰ·head, List·
 use mathlib.Core.Logic.{_⊎_, ⊎-elim, _≢_}
 use mathlib.Core.Path.{_≡_, refl, sym, _∙_}
 use native.Mathlib.Omega.{arith}
-use Rattle.model.specs.Runs.{pastBin, from, one, holds}
+use Rattle.model.specs.Runs.{pastBin, from, rank, one, holds}
 use Rattle.model.specs.Walk.{headOf}
 use Rattle.model.proofs.Tests.{lt-or-le, eq-or-ne, true-false, one-most}
-use Rattle.model.specs.Rows.{Rise, rise-nil, rise-cons, rank}
+use Rattle.model.specs.Rows.{Rise, rise-nil, rise-cons}
 
 pub rise-least : {a x : ℕ} {s : List ℕ} → Rise a s → List·Memᴰ x s → a ≤ x
 rise-least rise-nil m = absurd (List·Memᴰ·not-nil m)
@@ -68,7 +68,7 @@ rank-le v [] = rw (rank-nil v) (omega arith)
 rank-le v (x ∷ s) =
     ⊎-elim (λ h. rw (rank-pass v x s h) (let i = rank-le v s in omega arith)) (λ h. rw (rank-stop v x s h) (omega arith)) (lt-or-le x v)
 
--- what stands before the rank is below v, and what stands from it on is not
+-- what stands before the rank is below v
 pub below-rank : (v : ℕ) (s : List ℕ) (i : ℕ) → i < rank v s → getD s i 0 < v
 below-rank v [] i h = let e = rank-nil v in absurd (omega arith)
 below-rank v (x ∷ s) zero h = ⊎-elim (λ l. l) (λ l. let e = rank-stop v x s l in absurd (omega arith)) (lt-or-le x v)
@@ -78,18 +78,14 @@ below-rank v (x ∷ s) (suc i) h =
     (λ l. let e = rank-stop v x s l in absurd (omega arith))
     (lt-or-le x v)
 
-rise-at : {a : ℕ} (s : List ℕ) → Rise a s → (i : ℕ) → i < length s → a ≤ getD s i 0
-rise-at [] r i h = absurd (omega arith)
-rise-at (x ∷ s) r zero h = rise-head r
-rise-at (x ∷ s) r (suc i) h = let e = rise-head r in let g = rise-at s (rise-tail r) i (omega arith) in omega arith
-
-pub from-rank : (v : ℕ) {a : ℕ} (s : List ℕ) → Rise a s → (i : ℕ) → rank v s ≤ i → i < length s → v ≤ getD s i 0
-from-rank v [] r i h l = absurd (omega arith)
-from-rank v (x ∷ s) r zero h l = ⊎-elim (λ p. let e = rank-pass v x s p in absurd (omega arith)) (λ p. p) (lt-or-le x v)
-from-rank v (x ∷ s) r (suc i) h l =
+-- a number below v at the rank is before it
+pub rank-on : (v : ℕ) (s : List ℕ) (i : ℕ) → i ≤ rank v s → i < length s → getD s i 0 < v → i < rank v s
+rank-on v [] i h l b = absurd (omega arith)
+rank-on v (x ∷ s) zero h l b = let e = rank-pass v x s b in omega arith
+rank-on v (x ∷ s) (suc i) h l b =
     ⊎-elim
-    (λ p. let e = rank-pass v x s p in from-rank v s (rise-tail r) i (omega arith) (omega arith))
-    (λ p. let e = rise-at s (rise-tail r) i (omega arith) in omega arith)
+    (λ q. let e = rank-pass v x s q in let r = rank-on v s i (omega arith) (omega arith) b in omega arith)
+    (λ q. let e = rank-stop v x s q in absurd (omega arith))
     (lt-or-le x v)
 
 -- from, rising, and membership

@@ -14,6 +14,7 @@ use Rattle.model.specs.Runs.{Run, pastBin, total, one, count}
 use Rattle.model.specs.Walk.{head, leastHead, tthHead}
 use Rattle.model.proofs.Count.{count-le, count-eq, count-some}
 use Rattle.model.proofs.Tests.{both, lt-or-le}
+use Rattle.model.proofs.Ordered.{ordered-at}
 use Rattle.model.specs.Rows.{Ordered, ordered-nil, ordered-cons, below}
 
 -- how many heads are not above h
@@ -195,11 +196,6 @@ nth-enough (x ∷ s) o zero l = rw (le-leb x x (omega arith)) (omega arith)
 nth-enough (x ∷ s) (ordered-cons m o) (suc i) l =
     let j = nth-enough s o i (omega arith) in
     rw (le-leb x (getD s i 0) (ordered-at s o i (omega arith))) (omega arith)
-  where
-    ordered-at : {a : ℕ} (u : List ℕ) → Ordered a u → (k : ℕ) → k < length u → a ≤ getD u k 0
-    ordered-at [] q k n = absurd (omega arith)
-    ordered-at (y ∷ u) (ordered-cons p q) zero n = p
-    ordered-at (y ∷ u) (ordered-cons p q) (suc k) n = let j = ordered-at u q k (omega arith) in omega arith
 
 nth-least : {a : ℕ} (s : List ℕ) → Ordered a s → (i h : ℕ) → i < length s → h < getD s i 0 → notAbove h s ≤ i
 unfolding notAbove one

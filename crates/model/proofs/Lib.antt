@@ -21,6 +21,7 @@ pub mod ManyChecks
 pub mod ManyDemands
 pub mod ManyEnough
 pub mod Masks
+pub mod Ordered
 pub mod Quiet
 pub mod Rounds
 pub mod Searching

@@ -9,11 +9,12 @@ use mathlib.Core.Logic.{⊎-elim}
 use mathlib.Core.Path.{_≡_, refl, sym, ap, _∙_}
 use native.Mathlib.Omega.{arith}
 use Rattle.model.specs.Compared.{digits}
-use Rattle.model.specs.Runs.{from}
+use Rattle.model.specs.Runs.{from, rank}
 use Rattle.model.specs.Walk.{doubling, Bracket, halving, Halving, seek}
 use Rattle.model.proofs.Digits.{below-digits}
-use Rattle.model.specs.Rows.{Rise, rank}
-use Rattle.model.proofs.From.{rank-le, below-rank, from-rank, drop-rank, rank-pass}
+use Rattle.model.specs.Rows.{Rise}
+use Rattle.model.proofs.From.{rank-le, drop-rank, rank-pass}
+use Rattle.model.proofs.Ordered.{rise-ordered, place-low, place-high}
 use Rattle.model.proofs.Tests.{lt-or-le}
 
 -- the step equations of doubling
@@ -63,13 +64,6 @@ pub record Bracketed (v : ℕ) (s : List ℕ) (j : ℕ) (b : Bracket) : Type 0 w
 half-pow : (j : ℕ) → 2 ^ j ≤ 2 ^ j / 2 + 2 ^ (j - 1)
 half-pow zero = omega arith
 half-pow (suc j) = let e : suc j - 1 ≡ j = omega arith in rw e (omega arith)
-
--- a place whose number is below v is before the rank, and the other way round
-pub place-low : (v : ℕ) {a : ℕ} (s : List ℕ) → Rise a s → (i : ℕ) → i < length s → getD s i 0 < v → i < rank v s
-place-low v s r i l h = ⊎-elim (λ q. q) (λ (q : rank v s ≤ i). let g = from-rank v s r i q l in absurd (omega arith)) (lt-or-le i (rank v s))
-
-pub place-high : (v : ℕ) (s : List ℕ) (i : ℕ) → v ≤ getD s i 0 → rank v s ≤ i
-place-high v s i h = ⊎-elim (λ (q : i < rank v s). let g = below-rank v s i q in absurd (omega arith)) (λ q. q) (lt-or-le i (rank v s))
 
 ended : (v : ℕ) (s : List ℕ) (j lo place : ℕ) → place ≡ 2 ^ j → lo ≡ place / 2 → lo < rank v s → length s ≤ place
     → Bracketed v s j (record { probes = 0; lo = lo; hi = length s })
@@ -125,7 +119,7 @@ bracket (suc fuel) v s r j lo place e f l n =
     let c = pow-pos j in
     rw (double-on fuel v s lo place h q)
     (went-on v s j place _ e h
-    (bracket fuel v s r (suc j) place (2 * place) (omega arith) (omega arith) (place-low v s r place h q) (omega arith))))
+    (bracket fuel v s r (suc j) place (2 * place) (omega arith) (omega arith) (place-low v s (rise-ordered r) place h q) (omega arith))))
     (λ (q : v ≤ getD s place 0). rw (double-stop fuel v s lo place h q) (stopped v s j lo place e l h q))
     (lt-or-le (getD s place 0) v))
     (λ (h : length s ≤ place). rw (double-end (suc fuel) v s lo place h) (ended v s j lo place e f l h))
@@ -148,7 +142,7 @@ locate (suc fuel) v s r (suc j) lo hi l h n w m =
     let i : lo + (hi - lo) / 2 < length s = omega arith in
     ⊎-elim
     (λ (u : getD s (lo + (hi - lo) / 2) 0 < v).
-    let k = locate fuel v s r j (lo + (hi - lo) / 2) hi (place-low v s r _ i u) h n (omega arith) (omega arith) in
+    let k = locate fuel v s r j (lo + (hi - lo) / 2) hi (place-low v s (rise-ordered r) _ i u) h n (omega arith) (omega arith) in
     rw (halve-up fuel v s lo hi q u) (record { found = k .found; few = omega arith }))
     (λ (u : v ≤ getD s (lo + (hi - lo) / 2) 0).
     let k = locate fuel v s r j lo (lo + (hi - lo) / 2) l (place-high v s _ u) (omega arith) (omega arith) (omega arith) in

@@ -100,15 +100,21 @@ probeKinds =
     limited 3 longNumbers longEnds 2 (refused 7 1 0 19 3 0) (take 1 longParts) ∷
     []
 
--- Runs that begin with the unmapped mark: those of the listing, and the long one of roundedDown, with it in front; two that have one bin each; one that has none; and
--- one with two marks, which does not rise. The allowances are just enough.
+-- Runs that begin with unmapped marks: those of the listing, and the long one of roundedDown, with one or more in front; two that have one bin each; one of a mark
+-- and two of marks only; one of them beside {5}; {0, 3, 9} and {0, 0, 3}. The allowances are just enough. And runs that do not rise after their marks.
 unfoldable pub unmapped : List Instance
 unmapped =
-    limited 3 (0 ∷ 2 ∷ 5 ∷ 9 ∷ 0 ∷ 5 ∷ 7 ∷ 9 ∷ 12 ∷ 0 ∷ 1 ∷ 9 ∷ []) (4 ∷ 9 ∷ 12 ∷ []) 2 (accepted 2 6 106 3 0) listingParts ∷
-    limited 4 (0 ∷ 10 ∷ 20 ∷ 30 ∷ 40 ∷ 50 ∷ 60 ∷ 70 ∷ 55 ∷ []) (8 ∷ 9 ∷ []) 2 (accepted 0 3 57 3 1) (roundedDown .parts) ∷
+    limited 3 (0 ∷ 2 ∷ 5 ∷ 9 ∷ 0 ∷ 0 ∷ 0 ∷ 5 ∷ 7 ∷ 9 ∷ 12 ∷ 0 ∷ 0 ∷ 1 ∷ 9 ∷ []) (4 ∷ 11 ∷ 15 ∷ []) 2 (accepted 2 6 106 3 0) listingParts ∷
+    limited 4 (0 ∷ 0 ∷ 10 ∷ 20 ∷ 30 ∷ 40 ∷ 50 ∷ 60 ∷ 70 ∷ 55 ∷ []) (9 ∷ 10 ∷ []) 2 (accepted 0 3 57 3 1) (roundedDown .parts) ∷
     limited 0 (0 ∷ 1 ∷ 0 ∷ 1 ∷ []) (2 ∷ 4 ∷ []) 2 (accepted 1 2 34 0 0) (answer 1 3 ∷ gap 2 4294967295 3 ∷ []) ∷
     limited 0 (0 ∷ []) (1 ∷ []) 1 (accepted 0 1 19 0 0) (gap 1 4294967295 1 ∷ []) ∷
-    limited 0 (0 ∷ 0 ∷ 5 ∷ []) (3 ∷ []) 1 (refused 4 1 0 0 0 0) [] ∷
+    limited 0 (0 ∷ 0 ∷ 0 ∷ 0 ∷ 0 ∷ []) (2 ∷ 5 ∷ []) 2 (accepted 0 1 19 0 0) (gap 1 4294967295 3 ∷ []) ∷
+    limited 0 (0 ∷ 0 ∷ 5 ∷ []) (3 ∷ []) 1 (accepted 1 3 53 0 0) (gap 1 4 1 ∷ answer 5 1 ∷ gap 6 4294967295 1 ∷ []) ∷
+    limited 0 (0 ∷ 0 ∷ 0 ∷ 5 ∷ []) (3 ∷ 4 ∷ []) 1 (accepted 1 3 53 0 0) (gap 1 4 3 ∷ answer 5 2 ∷ gap 6 4294967295 3 ∷ []) ∷
+    limited 0 (0 ∷ 3 ∷ 9 ∷ 0 ∷ 0 ∷ 3 ∷ []) (3 ∷ 6 ∷ []) 2 (accepted 1 3 53 0 0) (gap 1 2 3 ∷ answer 3 3 ∷ gap 4 4294967295 2 ∷ []) ∷
+    limited 0 (5 ∷ 0 ∷ []) (2 ∷ []) 1 (refused 4 1 0 0 0 0) [] ∷
+    limited 0 (0 ∷ 0 ∷ 5 ∷ 0 ∷ []) (4 ∷ []) 1 (refused 4 3 0 0 0 0) [] ∷
+    limited 0 (0 ∷ 0 ∷ 0 ∷ 0 ∷ 7 ∷ 7 ∷ []) (2 ∷ 6 ∷ []) 1 (refused 4 5 0 0 0 0) [] ∷
     []
 
 -- A call with many questions, so many places lent for answers, certificate bytes and results, all zeros before the call; and what it returns and writes.
@@ -233,12 +239,12 @@ manyQuestions =
     longTwice 12 (refused-in 1 7 1 0 4 76 8 4) (longParts ++ take 1 longParts) (0 ∷ 57 ∷ []) ∷
     []
 
--- one question over each of two runs that begin with the unmapped mark, and one over both
+-- one question over each of two runs that begin with unmapped marks, and one over both
 unfoldable pub unmappedMany : ManyInstance
 unmappedMany =
     record {
-      numbers = 0 ∷ 4 ∷ 0 ∷ 4 ∷ 6 ∷ [];
-      ends = 2 ∷ 5 ∷ [];
+      numbers = 0 ∷ 4 ∷ 0 ∷ 0 ∷ 0 ∷ 4 ∷ 6 ∷ [];
+      ends = 2 ∷ 7 ∷ [];
       masks = 1 ∷ 2 ∷ 3 ∷ [];
       thresholds = 1 ∷ 1 ∷ 2 ∷ [];
       allowance = 0;
@@ -260,9 +266,15 @@ pub record AsExpected (is : List Instance) : Type 0 where
 pub record ManyAsExpected (is : List ManyInstance) : Type 0 where
   pub same : map askedMany is ≡ map expectedMany is
 
--- A part between two numbers never shows an unmapped mark, and a certificate that begins at bin 0 is refused.
+-- A part between two numbers never shows an unmapped mark, and is empty where the list does not rise after its marks. A certificate that begins at bin 0 is
+-- refused, and {0, 0, 5} is judged as {5}.
 pub record Unmapped : Type 0 where
   pub shown : between 0 3 (0 ∷ 3 ∷ 5 ∷ []) ≡ 3 ∷ []
   pub not-shown : between 0 0 (0 ∷ 3 ∷ 5 ∷ []) ≡ []
+  pub several : between 0 9 (0 ∷ 0 ∷ 3 ∷ []) ≡ 3 ∷ []
+  pub marks-only : between 0 9 (0 ∷ 0 ∷ []) ≡ []
+  pub further-on : between 0 9 (5 ∷ 0 ∷ []) ≡ []
   pub from-1 : check listingNumbers listingEnds 2 (encode listingParts) ≡ valid 2 6
   pub from-0 : check listingNumbers listingEnds 2 (encode (gap 0 1 3 ∷ drop 1 listingParts)) ≡ invalid 9 0 0 0
+  pub judged-alike : check (0 ∷ 0 ∷ 5 ∷ []) (3 ∷ []) 1 (encode (gap 1 4 1 ∷ answer 5 1 ∷ gap 6 4294967295 1 ∷ [])) ≡ valid 1 3
+  pub refused-alike : check (0 ∷ 0 ∷ 5 ∷ []) (3 ∷ []) 1 (encode (gap 1 4294967295 1 ∷ [])) ≡ invalid 11 0 0 0

@@ -11,7 +11,7 @@ use lib.ListN.{length, drop}
 use Rattle.model.specs.Certificate.{Part, answer, gap, firstOf, lastOf, answersOf, encode, sizeOf, unreadable, read, readField}
 use Rattle.model.specs.Compared.{wholeWalk, partsOf, doublingsOf, halvingsOf}
 use Rattle.model.specs.Between.{within}
-use Rattle.model.specs.Runs.{Run, firstBin, pastBin, slice, runs, unrisen, holds, maskOfAll, names, chosen, mostRuns, mostNumbers}
+use Rattle.model.specs.Runs.{Run, firstBin, pastBin, slice, runs, unrisenRun, holds, maskOfAll, names, chosen, mostRuns, mostNumbers}
 use Rattle.model.specs.Walk.{Event, sought, doubled, halved, wrote}
 
 -- A check is passed or is refused with the refusal's number and place. Checks are made in order, and the first one met decides.
@@ -42,10 +42,11 @@ unfoldable pub lastEnd : ℕ → List ℕ → ℕ
 lastEnd b [] = b
 lastEnd b (e ∷ ends) = lastEnd e ends
 
--- A number is not above the one before it in its run, as it is lent: its index in the row, the first such. (Here: the first run starts at index a.)
+-- A number is not above the one before it in its run, zeros at the run's start passed over: its index in the row as it is lent, the first such. (Here: the first
+-- run starts at index a.)
 unfoldable pub unrisenIn : ℕ → List ℕ → List ℕ → Option ℕ
 unrisenIn a numbers [] = none
-unrisenIn a numbers (e ∷ ends) = elim (unrisen a (slice numbers a e)) [ some i ↦ some i | none ↦ unrisenIn e numbers ends ]
+unrisenIn a numbers (e ∷ ends) = elim (unrisenRun a (slice numbers a e)) [ some i ↦ some i | none ↦ unrisenIn e numbers ends ]
 
 -- The first checks, those of the door, in pieces. 1: k is 0 or above 64, place k.
 unfoldable pub countCheck : List ℕ → Check

@@ -1,6 +1,5 @@
 -- Lists and rows of numbers in order, runs counted by their heads, and searches cut short: terms in which the code's contracts speak. Definitions only.
 use Prim.Native.Nat.{ℕ, suc, _≤_, _<_}
-use mathlib.Core.Bool.{true, false}
 use mathlib.Core.List.{List, [], _∷_}
 use lib.Dec.{ltb, eqb}
 use Rattle.model.specs.Compared.{halvingsOf}
@@ -12,11 +11,6 @@ use Rattle.model.specs.Walk.{Event, head}
 pub data Rise : ℕ → List ℕ → Type 0 where
   rise-nil : {a : ℕ} → Rise a []
   rise-cons : {a x : ℕ} {s : List ℕ} → a ≤ x → x < pastBin → Rise (suc x) s → Rise a (x ∷ s)
-
--- how many numbers of a list stand before those from v on; Barbay and Kenyon's insertion rank less one
-unfoldable pub rank : ℕ → List ℕ → ℕ
-rank v [] = 0
-rank v (x ∷ s) = elim (ltb x v) [ true ↦ suc (rank v s) | false ↦ 0 ]
 
 -- numbers in rising order, the first of them not below a; equal ones may follow one another
 pub data Ordered : ℕ → List ℕ → Type 0 where

@@ -24,8 +24,8 @@ mostRuns = 64
 abbrev pub mostNumbers : ℕ
 mostNumbers = 1048576
 
--- A run is one rising list. The label is its number; the bins are those of its numbers that are bins and, where a walk has moved on, those from the run's
--- position on.
+-- A run is one rising list. The label is its number; the bins are its numbers after any zeros at its start and, where a walk has moved on, those from the
+-- run's position on.
 pub record Run : Type 0 where
   pub label : ℕ
   pub bins : List ℕ
@@ -39,8 +39,13 @@ unfoldable pub from : ℕ → List ℕ → List ℕ
 from v [] = []
 from v (x ∷ s) = elim (ltb x v) [ true ↦ from v s | false ↦ x ∷ s ]
 
--- Run 0 starts at place 0, and run i starts at the end of run i − 1. A 0 at the start of a run is passed over. (Here: the runs from label i on, the first of
--- them from place a on.)
+-- how many are passed over; Barbay and Kenyon's insertion rank less one
+unfoldable pub rank : ℕ → List ℕ → ℕ
+rank v [] = 0
+rank v (x ∷ s) = elim (ltb x v) [ true ↦ suc (rank v s) | false ↦ 0 ]
+
+-- Run 0 starts at place 0, and run i starts at the end of run i − 1. Any number of zeros at the start of a run is passed over. (Here: the runs from label i on,
+-- the first of them from place a on.)
 unfoldable pub runsFrom : ℕ → ℕ → List ℕ → List ℕ → List Run
 runsFrom i a numbers [] = []
 runsFrom i a numbers (e ∷ ends) =
@@ -57,6 +62,10 @@ unrisenAfter i x (y ∷ s) = elim (ltb x y) [ true ↦ unrisenAfter (suc i) y s 
 unfoldable pub unrisen : ℕ → List ℕ → Option ℕ
 unrisen i [] = none
 unrisen i (x ∷ s) = unrisenAfter i x s
+
+-- Of a run as it is lent, its first number being at place i, the rising check starts at the first number that is not 0.
+unfoldable pub unrisenRun : ℕ → List ℕ → Option ℕ
+unrisenRun i s = unrisen (i + rank firstBin s) (from firstBin s)
 
 -- a run holds a bin
 unfoldable pub holds : ℕ → List ℕ → Bool

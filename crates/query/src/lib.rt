@@ -1,6 +1,7 @@
 // The question: which bins at least t of the runs hold, with a certificate (docs/SPECIFICATION.md, 'The walk').
 ghost use mathlib.Core.Path.{_≡_};
 ghost use Prim.Native.Nat.{_≤_};
+ghost use lib.ListN.{length};
 ghost use Rattle.walk_tally.specs.Tally.{undoubled};
 ghost use Rattle.walk_write.specs.Writes.{countsOf};
 ghost use Rattle.model.specs.Demands.{Demand2, Demand3};
@@ -56,7 +57,37 @@ fn outcome_of(end: End, allowance: u32) -> Outcome
     }
 }
 
-// A question that passes the first checks: the walk over all runs, with the whole allowance, into buffers from their first place on.
+// A question that passes the first checks: the walk over all runs, with the whole allowance, into buffers from their first place on. `firsts` has a place for
+// each run, where its bins begin.
+fn answer_with(
+    numbers: &[u32],
+    ends: &[u32],
+    threshold: usize,
+    allowance: u32,
+    firsts: &mut [u32],
+    answers: &mut [u32],
+    certificate: &mut [u8],
+) -> Outcome
+    requires { ⌜ (firstChecks (now numbers) (now ends) threshold ≡ passed) × (length (now firsts) ≡ length (now ends)) ⌝ }
+    ensures { λ r. ⌜ Returns (query (now (numbers .entry)) (now (ends .entry)) threshold allowance (now (answers .entry)) (now (certificate .entry))) (outcomeIs r) (now (answers .exit)) (now (certificate .exit)) ⌝ }
+{
+    walk_begin::first_places(numbers, ends, firsts);
+    let end = walk_whole::question_walk(
+        numbers,
+        ends,
+        firsts,
+        mask::all_runs(ends.len()),
+        threshold,
+        answers,
+        certificate,
+        0,
+        0,
+        walk_tally::whole(allowance),
+    );
+    outcome_of(end, allowance)
+}
+
+// The same with a row of its own.
 fn answer(
     numbers: &[u32],
     ends: &[u32],
@@ -68,18 +99,17 @@ fn answer(
     requires { ⌜ firstChecks (now numbers) (now ends) threshold ≡ passed ⌝ }
     ensures { λ r. ⌜ Returns (query (now (numbers .entry)) (now (ends .entry)) threshold allowance (now (answers .entry)) (now (certificate .entry))) (outcomeIs r) (now (answers .exit)) (now (certificate .exit)) ⌝ }
 {
-    let end = walk_whole::question_walk(
+    let mut firsts = [0u32; limits::MOST_RUNS];
+    let k = ends.len();
+    answer_with(
         numbers,
         ends,
-        mask::all_runs(ends.len()),
         threshold,
+        allowance,
+        &mut firsts[0..k],
         answers,
         certificate,
-        0,
-        0,
-        walk_tally::whole(allowance),
-    );
-    outcome_of(end, allowance)
+    )
 }
 
 // Which bins at least `threshold` runs hold, with a certificate, by at most `allowance` probes. `ends` holds the places in `numbers` after each run's last.

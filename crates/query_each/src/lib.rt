@@ -6,6 +6,8 @@ ghost use lib.ListN.{length};
 ghost use Rattle.field_write.specs.Stored.{placed};
 ghost use Rattle.query_each.specs.Questions.{Fitted, Rows, Asks, Answers};
 ghost use Rattle.model.specs.Refusals.{passed, chosenChecks};
+ghost use Rattle.model.specs.Runs.{runs};
+ghost use Rattle.walk_state.specs.Moves.{PlacedAt};
 use walk_rounds::End;
 
 // What the questions so far have written, and the tally of the call's probes (walk_tally).
@@ -38,6 +40,7 @@ fn tell(results: &mut [u64], q: usize, answers: usize, bytes: usize)
 fn question(
     numbers: &[u32],
     ends: &[u32],
+    firsts: &[u32],
     chosen: u64,
     threshold: u32,
     q: usize,
@@ -46,12 +49,13 @@ fn question(
     results: &mut [u64],
     totals: Totals,
 ) -> Finish
-    requires { ⌜ Fitted (now answers) (now certificate) totals × (chosenChecks (now numbers) (now ends) chosen threshold ≡ passed) × (2 * q + 2 ≤ length (now results)) ⌝ }
+    requires { ⌜ Fitted (now answers) (now certificate) totals × PlacedAt (now numbers) (now ends) (runs (now numbers) (now ends)) (now firsts) × (chosenChecks (now numbers) (now ends) chosen threshold ≡ passed) × (2 * q + 2 ≤ length (now results)) ⌝ }
     ensures { λ r. ⌜ Asks (now (numbers .entry)) (now (ends .entry)) chosen threshold q totals (now (answers .entry)) (now (certificate .entry)) (now (results .entry)) (now (answers .exit)) (now (certificate .exit)) (now (results .exit)) r ⌝ }
 {
     let end = walk_whole::question_walk(
         numbers,
         ends,
+        firsts,
         chosen,
         arith::usize_of_u32(threshold),
         answers,
@@ -84,10 +88,11 @@ fn question(
     }
 }
 
-// All questions, until a refusal ends one.
+// All questions, until a refusal ends one. `firsts` holds the places of the runs' first bins: they are found once for all questions.
 pub fn each_question(
     numbers: &[u32],
     ends: &[u32],
+    firsts: &[u32],
     masks: &[u64],
     thresholds: &[u32],
     answers: &mut [u32],
@@ -95,7 +100,7 @@ pub fn each_question(
     results: &mut [u64],
     totals: Totals,
 ) -> Finish
-    requires { ⌜ Fitted (now answers) (now certificate) totals × Rows (now numbers) (now ends) (now masks) (now thresholds) (now results) ⌝ }
+    requires { ⌜ Fitted (now answers) (now certificate) totals × PlacedAt (now numbers) (now ends) (runs (now numbers) (now ends)) (now firsts) × Rows (now numbers) (now ends) (now masks) (now thresholds) (now results) ⌝ }
     ensures { λ r. ⌜ Answers (now (numbers .entry)) (now (ends .entry)) (now (masks .entry)) (now (thresholds .entry)) totals (now (answers .entry)) (now (certificate .entry)) (now (results .entry)) (now (answers .exit)) (now (certificate .exit)) (now (results .exit)) r ⌝ }
 {
     let mut w = totals;
@@ -104,6 +109,7 @@ pub fn each_question(
         let f = question(
             numbers,
             ends,
+            firsts,
             masks[q],
             thresholds[q],
             q,

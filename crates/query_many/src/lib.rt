@@ -2,6 +2,7 @@
 // the buffers are the call's.
 ghost use mathlib.Core.Path.{_≡_};
 ghost use Prim.Native.Nat.{_≤_};
+ghost use lib.ListN.{length};
 ghost use Rattle.model.specs.Many.{all-passed, manyChecks, queryMany};
 ghost use Rattle.model.specs.ManyDemands.{ManyDemand2, ManyDemand3};
 ghost use Rattle.query_progress.specs.Calls.{callOutcome};
@@ -63,23 +64,27 @@ fn outcome_of(end: Finish, allowance: u32) -> ManyOutcome
     }
 }
 
-// A call that passes the first checks.
-fn answer_all(
+// A call that passes the first checks. `firsts` has a place for each run, where its bins begin: zeros at the start of a run are passed over once, however many
+// questions there are.
+fn answer_with(
     numbers: &[u32],
     ends: &[u32],
     masks: &[u64],
     thresholds: &[u32],
     allowance: u32,
+    firsts: &mut [u32],
     answers: &mut [u32],
     certificate: &mut [u8],
     results: &mut [u64],
 ) -> ManyOutcome
-    requires { ⌜ manyChecks (now numbers) (now ends) (now masks) (now thresholds) (now results) ≡ all-passed ⌝ }
+    requires { ⌜ (manyChecks (now numbers) (now ends) (now masks) (now thresholds) (now results) ≡ all-passed) × (length (now firsts) ≡ length (now ends)) ⌝ }
     ensures { λ r. ⌜ ReturnsMany (queryMany (now (numbers .entry)) (now (ends .entry)) (now (masks .entry)) (now (thresholds .entry)) allowance (now (answers .entry)) (now (certificate .entry)) (now (results .entry))) (manyOutcomeIs r) (now (answers .exit)) (now (certificate .exit)) (now (results .exit)) ⌝ }
 {
+    walk_begin::first_places(numbers, ends, firsts);
     let end = query_each::each_question(
         numbers,
         ends,
+        firsts,
         masks,
         thresholds,
         answers,
@@ -93,6 +98,35 @@ fn answer_all(
         },
     );
     outcome_of(end, allowance)
+}
+
+// The same with a row of its own.
+fn answer_all(
+    numbers: &[u32],
+    ends: &[u32],
+    masks: &[u64],
+    thresholds: &[u32],
+    allowance: u32,
+    answers: &mut [u32],
+    certificate: &mut [u8],
+    results: &mut [u64],
+) -> ManyOutcome
+    requires { ⌜ manyChecks (now numbers) (now ends) (now masks) (now thresholds) (now results) ≡ all-passed ⌝ }
+    ensures { λ r. ⌜ ReturnsMany (queryMany (now (numbers .entry)) (now (ends .entry)) (now (masks .entry)) (now (thresholds .entry)) allowance (now (answers .entry)) (now (certificate .entry)) (now (results .entry))) (manyOutcomeIs r) (now (answers .exit)) (now (certificate .exit)) (now (results .exit)) ⌝ }
+{
+    let mut firsts = [0u32; limits::MOST_RUNS];
+    let k = ends.len();
+    answer_with(
+        numbers,
+        ends,
+        masks,
+        thresholds,
+        allowance,
+        &mut firsts[0..k],
+        answers,
+        certificate,
+        results,
+    )
 }
 
 // For each question which bins at least its threshold of its chosen runs hold, with a certificate, by at most `allowance` probes in all. Answers and certificates

@@ -1,24 +1,22 @@
--- Where the runs of a walk begin: those that a mask does not choose have no number left, the others are at their bins. Assumes nothing.
+-- Where the runs of a walk begin: those that a mask does not choose have no number left, the others are at their first bins. Assumes nothing.
 use Prim.Native.Nat.{ℕ, suc, _+_, _-_, _≤_, _<_}
 use lib.Dec.{eqb}
-use lib.ListN.{getD}
+use lib.ListN.{length, getD}
 use mathlib.Core.Bool.{true, false}
-use mathlib.Core.List.{List, [], map}
+use mathlib.Core.List.{List, [], _∷_, map}
 use mathlib.Core.Logic.{⊎-elim}
-use mathlib.Core.Path.{_≡_, sym, ap, _∙_}
+use mathlib.Core.Path.{_≡_, refl, sym, ap, ap₂, _∙_}
 use native.Mathlib.Omega.{arith}
-use Rattle.model.specs.Rows.{Rise, rise-nil, rank}
-use Rattle.model.specs.Runs.{Run, firstBin, slice, from, unrisen, bit, names, chosen}
+use Rattle.model.specs.Rows.{Rise, rise-nil}
+use Rattle.model.specs.Runs.{Run, slice, bit, names, chosen}
 use Rattle.model.proofs.Chosen.{chosen-mem, chosen-map}
-use Rattle.model.proofs.From.{rank-nil, rank-stop, rank-le, drop-rank}
-use Rattle.model.proofs.Slices.{part-empty, part-cons, part-length}
 use Rattle.model.proofs.Tests.{both}
-use Rattle.model.proofs.Unmapped.{rank-mark}
 use Rattle.model.proofs.Walking.{map-mem}
-use Rattle.walk_state.specs.State.{Idle}
+use Rattle.walk_state.specs.Moves.{PlacedAt}
+use Rattle.walk_state.specs.State.{runsAt, Inside, Idle}
 use Rattle.walk_state.proofs.Choosing.{names-label}
-use Rattle.walk_state.proofs.Going.{map-still, drop-part}
-use Rattle.walk_begin.specs.Begin.{LentAt, standing, firstBinAt, firstPlace}
+use Rattle.walk_state.proofs.Going.{map-still}
+use Rattle.walk_begin.specs.Begin.{ChosenAt, standing, beginsAt}
 
 standing-in : (m : ℕ) (r : Run) → names m r ≡ true → standing m r ≡ r
 unfolding standing
@@ -50,69 +48,65 @@ pub standing-rises : (m a : ℕ) (r : Run) → Rise a (r .bins) → Rise a (stan
 standing-rises m a r h =
     ⊎-elim (λ q. rw (standing-in m r q) h) (λ q. rw (standing-out m r q) rise-nil) (both (names m r))
 
-module _ (numbers : List ℕ) (a e : ℕ) (l : LentAt numbers a e) where
-  -- the place of the first bin of a run from a to e: after a 0 at its start
-  pub bin-here : e ≤ a → firstBinAt numbers a e ≡ a
-  unfolding firstBinAt
-  bin-here h =
-      let o = l .order in
-      let z : a ≡ e = omega arith in
-      let s : slice numbers a e ≡ [] = (λ d. slice numbers (z d) e) ∙ part-empty e numbers in
-      let k = ap (rank firstBin) s ∙ rank-nil firstBin in
-      omega arith
+module _ (m : ℕ) where
+  -- the place where a run begins
+  module _ (i first e : ℕ) where
+    pub begins-first : eqb (bit m i) 1 ≡ true → beginsAt m i first e ≡ first
+    unfolding beginsAt
+    begins-first q = rw (q, beginsAt)
 
-  pub bin-first : a < e → firstBin ≤ getD numbers a 0 → firstBinAt numbers a e ≡ a
-  unfolding firstBinAt
-  bin-first h b =
-      let k = ap (rank firstBin) (part-cons a e numbers h (l .inside)) ∙ rank-stop firstBin (getD numbers a 0) (slice numbers (suc a) e) b in
-      omega arith
+    pub begins-end : eqb (bit m i) 1 ≡ false → beginsAt m i first e ≡ e
+    unfolding beginsAt
+    begins-end q = rw (q, beginsAt)
 
-  pub bin-after : a < e → getD numbers a 0 < firstBin → firstBinAt numbers a e ≡ a + 1
-  unfolding firstBinAt
-  bin-after h b =
-      let c = part-cons a e numbers h (l .inside) in
-      let k =
-      ap (rank firstBin) c
-      ∙ rank-mark a (getD numbers a 0) (slice numbers (suc a) e) (sym (ap (unrisen a) c) ∙ l .risen) b in
-      omega arith
-
-  bin-inside : firstBinAt numbers a e ≤ e
-  unfolding firstBinAt
-  bin-inside =
-      let k = rank-le firstBin (slice numbers a e) in
-      let n = part-length a e numbers (l .inside) in
-      let o = l .order in
-      omega arith
-
-  -- the place where it begins
-  module _ (m i : ℕ) where
-    pub first-chosen : eqb (bit m i) 1 ≡ true → firstPlace numbers m i a e ≡ firstBinAt numbers a e
-    unfolding firstPlace
-    first-chosen q = rw (q, firstPlace)
-
-    pub first-other : eqb (bit m i) 1 ≡ false → firstPlace numbers m i a e ≡ e
-    unfolding firstPlace
-    first-other q = rw (q, firstPlace)
-
-    pub first-place-le : firstPlace numbers m i a e ≤ e
-    first-place-le =
+    begins-inside : first ≤ e → beginsAt m i first e ≤ e
+    begins-inside h =
         ⊎-elim
-        (λ q. let f = first-chosen q in let h = bin-inside in omega arith)
-        (λ q. let f = first-other q in omega arith)
+        (λ q. let f = begins-first q in omega arith)
+        (λ q. let f = begins-end q in omega arith)
         (both (eqb (bit m i) 1))
 
-    -- there it is at its bins
-    pub standing-at : standing m (record { label = i; bins = from firstBin (slice numbers a e) })
-        ≡ record { label = i; bins = slice numbers (firstPlace numbers m i a e) e }
-    unfolding names firstBinAt
-    standing-at =
-        let r : Run = record { label = i; bins = from firstBin (slice numbers a e) } in
+    -- there it is as it stands
+    begins-standing : (numbers : List ℕ) → record { label = i; bins = slice numbers (beginsAt m i first e) e } ≡ standing m (record { label = i; bins = slice numbers first e })
+    unfolding names
+    begins-standing numbers =
+        let r : Run = record { label = i; bins = slice numbers first e } in
         let z : e - e ≡ 0 = omega arith in
-        let b : from firstBin (slice numbers a e) ≡ slice numbers (firstBinAt numbers a e) e =
-        sym (drop-rank firstBin (slice numbers a e)) ∙ drop-part (rank firstBin (slice numbers a e)) a e numbers in
         ⊎-elim
-        (λ q.
-        standing-in m r q
-        ∙ ((λ d. record { label = i; bins = b d }) ∙ (λ d. record { label = i; bins = slice numbers (sym (first-chosen q) d) e })))
-        (λ q. standing-out m r q ∙ rw (first-other q, z))
+        (λ q. (λ d. record { label = i; bins = slice numbers (begins-first q d) e }) ∙ sym (standing-in m r q))
+        (λ q. rw (begins-end q, z) (sym (standing-out m r q)))
         (both (eqb (bit m i) 1))
+
+  -- all runs are then as they stand
+  all-standing : (i : ℕ) (numbers ends firsts positions : List ℕ) → length firsts ≡ length ends → length positions ≡ length ends
+      → ((j : ℕ) → j < length ends → getD positions j 0 ≡ beginsAt m (i + j) (getD firsts j 0) (getD ends j 0))
+      → runsAt i numbers positions ends ≡ map (standing m) (runsAt i numbers firsts ends)
+  unfolding runsAt
+  all-standing i numbers [] [] [] f p h = refl
+  all-standing i numbers [] (x ∷ firsts) positions f p h = absurd (omega arith)
+  all-standing i numbers [] [] (x ∷ positions) f p h = absurd (omega arith)
+  all-standing i numbers (e ∷ ends) [] positions f p h = absurd (omega arith)
+  all-standing i numbers (e ∷ ends) (x ∷ firsts) [] f p h = absurd (omega arith)
+  all-standing i numbers (e ∷ ends) (x ∷ firsts) (y ∷ positions) f p h =
+      let z : i + 0 ≡ i = omega arith in
+      let g : y ≡ beginsAt m i x e = h 0 (omega arith) ∙ ap (λ k. beginsAt m k x e) z in
+      ap₂ _∷_
+      ((λ d. record { label = i; bins = slice numbers (g d) e }) ∙ begins-standing i x e numbers)
+      (all-standing (suc i) numbers ends firsts positions (omega arith) (omega arith)
+      (λ j l. let k : i + suc j ≡ suc i + j = omega arith in h (suc j) (omega arith) ∙ ap (λ n. beginsAt m n (getD firsts j 0) (getD ends j 0)) k))
+
+  pub standing-placed : (numbers ends firsts positions : List ℕ) → Inside numbers firsts ends → ChosenAt ends firsts m positions
+      → PlacedAt numbers ends (map (standing m) (runsAt 0 numbers firsts ends)) positions
+  standing-placed numbers ends firsts positions n c =
+      record {
+        inside = record {
+          lengths = c .size;
+          before = λ j l.
+              let e = c .each j l in
+              let k = begins-inside j (getD firsts j 0) (getD ends j 0) (n .before j l) in
+              omega arith;
+          within = n .within;
+        };
+        runs-are = all-standing 0 numbers ends firsts positions (n .lengths) (c .size)
+            (λ j l. let z : j ≡ 0 + j = omega arith in c .each j l ∙ ap (λ k. beginsAt m k (getD firsts j 0) (getD ends j 0)) z);
+      }

@@ -1,48 +1,47 @@
-// Runs put where a walk begins; their keys are put in the row.
+// Where each run's bins begin, and the runs put where a walk begins, with their keys in the row.
 ghost use mathlib.Core.Path.{_≡_};
 ghost use mathlib.Core.List.{map};
-ghost use Prim.Native.Nat.{_^_, _<_};
+ghost use Prim.Native.Nat.{_≤_, _<_};
 ghost use lib.ListN.{length};
-ghost use Rattle.walk_state.specs.State.{Holds};
-ghost use Rattle.model.specs.Runs.{runs, maskBits};
+ghost use Rattle.walk_state.specs.State.{runsAt, Holds};
+ghost use Rattle.model.specs.Runs.{runs, mostRuns, maskBits};
 ghost use Rattle.walk_state.specs.Moves.{PlacedAt};
-ghost use Rattle.walk_begin.specs.Begin.{BeginReady, LentAt, standing, firstBinAt, firstPlace};
+ghost use Rattle.walk_begin.specs.Begin.{Lent, BeginReady, ChosenAt, standing, beginsAt};
 
-// The place of the first bin of a run from `place` to `end`: a 0 at its start is passed over, which is no probe.
-fn first_bin(numbers: &[u32], place: u32, end: u32) -> u32
-    requires { ⌜ LentAt (now numbers) place end ⌝ }
-    ensures { λ r. ⌜ r ≡ firstBinAt (now (numbers .entry)) place end ⌝ }
+// Puts the place of each run's first bin into a row. The zeros at a run's start are passed over here, once for all questions over these runs.
+pub fn first_places(numbers: &[u32], ends: &[u32], firsts: &mut [u32])
+    requires { ⌜ Lent (now numbers) (now ends) (now firsts) ⌝ }
+    ensures { λ _. ⌜ PlacedAt (now (numbers .entry)) (now (ends .entry)) (runs (now (numbers .entry)) (now (ends .entry))) (now (firsts .exit)) ⌝ }
 {
-    if place < end {
-        if numbers[arith::usize_of_u32(place)] < limits::FIRST_BIN {
-            return place + 1;
-        }
+    let mut start: usize = 0;
+    let mut i: usize = 0;
+    while i < ends.len() {
+        let end = arith::usize_of_u32(ends[i]);
+        firsts[i] = first_bin::first_place(numbers, start, end) as u32;
+        start = end;
+        i += 1;
     }
-    place
 }
 
-// Where a run from `place` to `end` begins: at its first bin, or at its end where it is not chosen.
-fn first_place(numbers: &[u32], chosen: u64, run: u32, place: u32, end: u32) -> u32
-    requires { ⌜ (run < maskBits) × LentAt (now numbers) place end ⌝ }
-    ensures { λ r. ⌜ r ≡ firstPlace (now (numbers .entry)) chosen run place end ⌝ }
+// Where a run with its first bin at `first` begins: there, or at its end where it is not chosen.
+fn begins_at(chosen: u64, run: u32, first: u32, end: u32) -> u32
+    requires { ⌜ run < maskBits ⌝ }
+    ensures { λ r. ⌜ r ≡ beginsAt chosen run first end ⌝ }
 {
     if mask::names_run(chosen, run) {
-        return first_bin(numbers, place, end);
+        return first;
     }
     end
 }
 
 // Puts each chosen run at its first bin and every other at its end.
-fn begin_each(numbers: &[u32], ends: &[u32], chosen: u64, positions: &mut [u32])
-    requires { ⌜ BeginReady (now numbers) (now ends) (now positions) ⌝ }
-    ensures { λ r. ⌜ PlacedAt (now (numbers .entry)) (now (ends .entry)) (map (standing chosen) (runs (now (numbers .entry)) (now (ends .entry)))) (now (positions .exit)) ⌝ }
+fn begin_each(ends: &[u32], firsts: &[u32], chosen: u64, positions: &mut [u32])
+    requires { ⌜ (length (now ends) ≤ mostRuns) × (length (now firsts) ≡ length (now ends)) × (length (now positions) ≡ length (now ends)) ⌝ }
+    ensures { λ _. ⌜ ChosenAt (now (ends .entry)) (now (firsts .entry)) chosen (now (positions .exit)) ⌝ }
 {
-    let mut place: u32 = 0;
     let mut i: usize = 0;
     while i < ends.len() {
-        let end = ends[i];
-        positions[i] = first_place(numbers, chosen, i as u32, place, end);
-        place = end;
+        positions[i] = begins_at(chosen, i as u32, firsts[i], ends[i]);
         i += 1;
     }
 }
@@ -52,14 +51,15 @@ fn begin_each(numbers: &[u32], ends: &[u32], chosen: u64, positions: &mut [u32])
 pub fn begin(
     numbers: &[u32],
     ends: &[u32],
+    firsts: &[u32],
     chosen: u64,
     positions: &mut [u32],
     keys: &mut [u64],
 ) -> usize
-    requires { ⌜ BeginReady (now numbers) (now ends) (now positions) × (chosen < 2 ^ length (now ends)) × (length (now keys) ≡ length (now ends)) ⌝ }
-    ensures { λ r. ⌜ Holds (now (numbers .entry)) (now (ends .entry)) (now (positions .exit)) (now (keys .exit)) r (map (standing chosen) (runs (now (numbers .entry)) (now (ends .entry)))) ⌝ }
+    requires { ⌜ BeginReady (now numbers) (now ends) (now firsts) chosen (now positions) (now keys) ⌝ }
+    ensures { λ r. ⌜ Holds (now (numbers .entry)) (now (ends .entry)) (now (positions .exit)) (now (keys .exit)) r (map (standing chosen) (runsAt 0 (now (numbers .entry)) (now (firsts .entry)) (now (ends .entry)))) ⌝ }
 {
-    begin_each(numbers, ends, chosen, positions);
+    begin_each(ends, firsts, chosen, positions);
     let count = arith::usize_of_u32(mask::ones_of(chosen));
     walk_put::put_runs(numbers, ends, positions, keys, ends.len(), chosen, count)
 }

@@ -16,9 +16,10 @@ use Rattle.model.proofs.Count.{total-eq, count-eq}
 use Rattle.model.specs.Rows.{Rise, below, equal, Ordered}
 use Rattle.model.proofs.From.{from-past-head, from-other-head, rise-from, head-least}
 use Rattle.model.proofs.Masks.{Ascending, ascending, label-below, mask-only}
+use Rattle.model.proofs.Ordered.{ordered-drop}
 use Rattle.model.proofs.Tests.{both, eq-or-ne}
 use Rattle.model.proofs.Walking.{past-last, map-same, map-mem}
-use Rattle.walk_keys.proofs.Row.{ordered-drop, below-le}
+use Rattle.walk_keys.proofs.Row.{below-le}
 use Rattle.walk_keys.specs.Row.{sumOf, belowCount, labelSum, Labels}
 use Rattle.walk_write.specs.Writes.{countsOf}
 use Rattle.walk_settle.specs.Turns.{Stands, AtFloor, Passes}

@@ -3,8 +3,8 @@
 use Prim.Native.Nat.{ℕ, zero, suc, _+_, _-_, _^_, _≤_, _<_}
 use borrow.Author.Tests.{eq-eqb, ne-eqb}
 use lib.Dec.{ltb}
-use lib.ListN.{length, getD, take, drop, set, length-set}
-use lib.Seq.{getD-set-same, getD-set-other, drop-drop}
+use lib.ListN.{length, getD, drop, set, length-set}
+use lib.Seq.{getD-set-same, getD-set-other}
 use mathlib.Core.Bool.{true, false}
 use mathlib.Core.List.{List, [], _∷_, map, List·Memᴰ, List·Memᴰ·head, List·Memᴰ·tail}
 use mathlib.Core.Logic.{⊎-elim, _≢_}
@@ -16,6 +16,7 @@ use Rattle.model.specs.Walk.{head, headOf, seek, searchIn, searched}
 use Rattle.model.specs.Compared.{doublingProbe, halvingProbe, probe, halvingsOf, probesOf}
 use Rattle.model.proofs.Bounds.{search-cost}
 use Rattle.model.proofs.Masks.{Labelled, below-only}
+use Rattle.model.proofs.Slices.{drop-part}
 use Rattle.model.proofs.Tests.{both, lt-or-le, eq-or-ne}
 use Rattle.walk_state.specs.Moves.{Placeable, stepNamed}
 use Rattle.walk_state.specs.State.{noRun, runsAt, weigh, Inside, notNamed}
@@ -163,17 +164,6 @@ module _ (numbers ends positions : List ℕ) (rest run : ℕ) (rs : List Run) (m
           (eq-or-ne j run)
 
 -- ---- the run's own move
-
-drop-take : (n k : ℕ) (l : List ℕ) → drop n (take k l) ≡ take (k - n) (drop n l)
-drop-take zero k l = let e : k - 0 ≡ k = omega arith in rw e
-drop-take (suc n) zero l = let e : 0 - suc n ≡ 0 = omega arith in rw e
-drop-take (suc n) (suc k) [] = sym (lib.Seq.take-nil (suc k - suc n))
-drop-take (suc n) (suc k) (x ∷ l) = let e : suc k - suc n ≡ k - n = omega arith in rw e (drop-take n k l)
-
-pub drop-part : (n p e : ℕ) (numbers : List ℕ) → drop n (slice numbers p e) ≡ slice numbers (p + n) e
-drop-part n p e numbers =
-    let i : e - p - n ≡ e - (p + n) = omega arith in
-    drop-take n (e - p) (drop p numbers) ∙ (ap₂ (λ x y. take x y) i (drop-drop n p numbers))
 
 pub searched-still : (v : ℕ) (r : Run) → ltb (head r) v ≡ false → searched v r ≡ r
 unfolding searched

@@ -1,6 +1,5 @@
 -- The walk's first state stands, and where its rounds end the question does. Assumes nothing.
-use Prim.Native.Nat.{ℕ, _^_, _<_}
-use lib.ListN.{length}
+use Prim.Native.Nat.{ℕ}
 use mathlib.Core.List.{List, map, List·Memᴰ}
 use mathlib.Core.Path.{_≡_, sym, ap, _∙_, subst}
 use native.Mathlib.Omega.{arith}
@@ -28,14 +27,19 @@ use Rattle.walk_state.specs.State.{runsAt, chosenAt, Holds, Idle}
 abbrev pub firstState : ℕ → ℕ → ℕ → ℕ → State
 firstState start answered written tally = record { floor = 1; start = start; answers = answered; parts = 0; bytes = written; tally = tally }
 
-module _ (numbers ends : List ℕ) (m t : ℕ) (positions keys A B : List ℕ) (answered written tally : ℕ)
-    (b : Begins numbers ends m t positions keys A B answered written tally) where
-  pub begin-ready : BeginReady numbers ends positions × (m < 2 ^ length ends) × (length keys ≡ length ends)
+module _ (numbers ends firsts : List ℕ) (m t : ℕ) (positions keys A B : List ℕ) (answered written tally : ℕ)
+    (b : Begins numbers ends firsts m t positions keys A B answered written tally) where
+  pub begin-ready : BeginReady numbers ends firsts m positions keys
   begin-ready =
       let p = chosen-passed numbers ends m t (b .asked .checked) in
-      (record { few = p .few-runs; rise = p .lists .ends-rise; last = p .lists .ends-last; risen = p .lists .numbers-rise; size = b .positions-size }, p .only, b .keys-size)
+      record { few = p .few-runs; inside = b .asked .placed .inside; only = p .only; size = b .positions-size; keys-size = b .keys-size }
 
-  module _ (fits : Fits pastBin numbers) (positions′ keys′ : List ℕ) (start : ℕ) (h : Holds numbers ends positions′ keys′ start (map (standing m) (runs numbers ends))) where
+  module _ (fits : Fits pastBin numbers) (positions′ keys′ : List ℕ) (start : ℕ)
+      (begun : Holds numbers ends positions′ keys′ start (map (standing m) (runsAt 0 numbers firsts ends))) where
+    -- each chosen run is at its first bin
+    h : Holds numbers ends positions′ keys′ start (map (standing m) (runs numbers ends))
+    h = subst (λ rs. Holds numbers ends positions′ keys′ start (map (standing m) rs)) (b .asked .placed .runs-are) begun
+
     rising : (r : Run) → List·Memᴰ r (runsAt 0 numbers positions′ ends) → Rise 1 (r .bins)
     rising r i =
         let p = chosen-passed numbers ends m t (b .asked .checked) in

@@ -8,19 +8,22 @@ use Rattle.model.specs.Refusals.{passed, chosenChecks}
 use Rattle.model.specs.Runs.{runs, chosen}
 use Rattle.walk_progress.specs.Progress.{Counts, countsWith, onward}
 use Rattle.walk_rounds.specs.declared.End.{End}
+use Rattle.walk_state.specs.Moves.{PlacedAt}
 use Rattle.walk_tally.specs.Tally.{undoubled}
 use Rattle.walk_write.specs.Writes.{endsWith}
 
--- a question that passed the first checks, buffers in which so many answers and bytes stand, and the tally of an allowance of 32 bits
-pub record Asked (numbers ends : List ℕ) (m t : ℕ) (answers certificate : List ℕ) (answered written tally : ℕ) : Type 0 where
+-- a question that passed the first checks, the places of its runs' first bins, buffers in which so many answers and bytes stand, and the tally of an allowance of
+-- 32 bits
+pub record Asked (numbers ends firsts : List ℕ) (m t : ℕ) (answers certificate : List ℕ) (answered written tally : ℕ) : Type 0 where
   pub checked : chosenChecks numbers ends m t ≡ passed
+  pub placed : PlacedAt numbers ends (runs numbers ends) firsts
   pub answers-fit : answered ≤ length answers
   pub bytes-fit : written ≤ length certificate
   pub allowed : undoubled tally < 4294967296
 
 -- the same with rows for its walk
-pub record Begins (numbers ends : List ℕ) (m t : ℕ) (positions keys answers certificate : List ℕ) (answered written tally : ℕ) : Type 0 where
-  pub asked : Asked numbers ends m t answers certificate answered written tally
+pub record Begins (numbers ends firsts : List ℕ) (m t : ℕ) (positions keys answers certificate : List ℕ) (answered written tally : ℕ) : Type 0 where
+  pub asked : Asked numbers ends firsts m t answers certificate answered written tally
   pub positions-size : length positions ≡ length ends
   pub keys-size : length keys ≡ length ends
 

@@ -3,11 +3,12 @@ ghost use Rattle.walk_whole.specs.Whole.{Asked, Begins, ComesTo};
 use walk_rounds::End;
 use walk_write::State;
 
-// The walk over the chosen runs, from its beginning to its end. `answered` answers and `written` bytes stand in the buffers, and the walk writes
-// after them; `tally` tells how its probes are spent so far (walk_tally). Parts are counted from 0.
+// The walk over the chosen runs, from its beginning to its end. `firsts` holds the places of all runs' first bins. `answered` answers and `written` bytes stand in
+// the buffers, and the walk writes after them; `tally` tells how its probes are spent so far (walk_tally). Parts are counted from 0.
 fn whole_walk(
     numbers: &[u32],
     ends: &[u32],
+    firsts: &[u32],
     chosen: u64,
     threshold: usize,
     positions: &mut [u32],
@@ -18,10 +19,10 @@ fn whole_walk(
     written: usize,
     tally: u64,
 ) -> End
-    requires { ⌜ Begins (now numbers) (now ends) chosen threshold (now positions) (now keys) (now answers) (now certificate) answered written tally ⌝ }
+    requires { ⌜ Begins (now numbers) (now ends) (now firsts) chosen threshold (now positions) (now keys) (now answers) (now certificate) answered written tally ⌝ }
     ensures { λ r. ⌜ ComesTo (now (numbers .entry)) (now (ends .entry)) chosen threshold answered written tally (now (answers .entry)) (now (certificate .entry)) (now (answers .exit)) (now (certificate .exit)) r ⌝ }
 {
-    let start = walk_begin::begin(numbers, ends, chosen, positions, keys);
+    let start = walk_begin::begin(numbers, ends, firsts, chosen, positions, keys);
     walk_rounds::all_rounds(
         numbers,
         ends,
@@ -47,6 +48,7 @@ fn whole_walk(
 pub fn question_walk(
     numbers: &[u32],
     ends: &[u32],
+    firsts: &[u32],
     chosen: u64,
     threshold: usize,
     answers: &mut [u32],
@@ -55,7 +57,7 @@ pub fn question_walk(
     written: usize,
     tally: u64,
 ) -> End
-    requires { ⌜ Asked (now numbers) (now ends) chosen threshold (now answers) (now certificate) answered written tally ⌝ }
+    requires { ⌜ Asked (now numbers) (now ends) (now firsts) chosen threshold (now answers) (now certificate) answered written tally ⌝ }
     ensures { λ r. ⌜ ComesTo (now (numbers .entry)) (now (ends .entry)) chosen threshold answered written tally (now (answers .entry)) (now (certificate .entry)) (now (answers .exit)) (now (certificate .exit)) r ⌝ }
 {
     let mut positions = [0u32; limits::MOST_RUNS];
@@ -64,6 +66,7 @@ pub fn question_walk(
     whole_walk(
         numbers,
         ends,
+        firsts,
         chosen,
         threshold,
         &mut positions[0..k],

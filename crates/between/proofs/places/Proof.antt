@@ -1,14 +1,14 @@
--- `places` meets its contract: where the list rises, the ends are the ranks of the first and of the number after the last.
+-- `places` meets its contract: where the list rises after its zeros, the ends are the ranks of the first and of the number after the last.
 -- Assumes nothing.
 use borrow.Author.Needs.{needs}
 use denote.Ref.{now}
 use mathlib.Core.Option.{none}
 use mathlib.Core.Path.{_≡_, sym, ap, ap₂, _∙_}
 use native.Mathlib.Omega.{arith}
-use Rattle.model.specs.Rows.{Rise}
+use Rattle.model.specs.Rows.{Ordered}
 use Rattle.rising.specs.Found.{foundPlace}
-use Rattle.model.specs.Runs.{firstBin, pastBin, unrisen}
-use Rattle.model.proofs.FirstChecks.{fits, risen}
+use Rattle.model.specs.Runs.{firstBin, unrisenRun}
+use Rattle.model.proofs.FirstChecks.{run-ordered}
 use Rattle.model.proofs.Unmapped.{first-is}
 use Rattle.arith.specs.Order.{greater}
 use Rattle.between.proofs.Parts.{between-none, between-unrisen, spans-none, spans-ranks}
@@ -16,14 +16,11 @@ use Rattle.between.proofs.places.Statement.{statement}
 use Rattle.between.proofs.places.Tie as tie
 
 -- what the test says of the list
-risen-there : (c : tie.After-enum-told) → unrisen 0 (c .before .before .before .before .before .args .list .now) ≡ none
+risen-there : (c : tie.After-enum-told) → unrisenRun 0 (c .before .before .before .before .before .args .list .now) ≡ none
 risen-there c = sym (c .before .before .first-unrisen .ensures) ∙ ap foundPlace (c .enum-told .given .1)
 
-rise : (c : tie.After-enum-told) → Rise 0 (c .before .before .before .before .before .args .list .now)
-unfolding pastBin
-rise c =
-    let list = c .before .before .before .before .before .args .list .now in
-    risen 0 list (risen-there c) (fits pastBin list (λ i. omega (arith, c .before .before .before .before .shared-slice-known .given i)))
+in-order : (c : tie.After-enum-told) → Ordered 0 (c .before .before .before .before .before .args .list .now)
+in-order c = run-ordered 0 (c .before .before .before .before .before .args .list .now) (risen-there c)
 
 returns : tie.Need-returns
 returns c = let a = c .before .before .args in spans-none _ _ _ (between-none (a .first) (a .last) (now (a .list)) (c .if1 .taken))
@@ -44,7 +41,7 @@ greater-requires : tie.Need-greater-requires
 greater-requires c κs = search needs
 
 first-at-least-requires : tie.Need-first-at-least-requires
-first-at-least-requires c κs = rise (c .before .before)
+first-at-least-requires c κs = in-order (c .before .before)
 
 u64-of-u32-requires-2 : tie.Need-u64-of-u32-requires-2
 u64-of-u32-requires-2 c κs = search needs
@@ -53,7 +50,7 @@ add-first-at-least : tie.Need-add-first-at-least
 add-first-at-least c = search needs
 
 first-at-least-requires-2 : tie.Need-first-at-least-requires-2
-first-at-least-requires-2 c κs = rise (c .before .before .before .before)
+first-at-least-requires-2 c κs = in-order (c .before .before .before .before)
 
 returns-2 : tie.Need-returns-2
 returns-2 c =
@@ -62,7 +59,7 @@ returns-2 c =
     let a = told .before .before .before .before .before .args in
     let b : greater (g .before .u64-of-u32 .result) 1 ≡ greater (a .first) firstBin = ap₂ greater (g .before .u64-of-u32 .ensures) (sym first-is) in
     rw (c .first-at-least2 .ensures, c .before .u64-of-u322 .ensures, c .before .before .first-at-least .ensures, g .greater .ensures, b)
-    (spans-ranks (a .first) (a .last) (a .list .now) (omega arith) (risen-there told) (rise told))
+    (spans-ranks (a .first) (a .last) (a .list .now) (omega arith) (risen-there told))
 
 enum-told-2 : tie.Need-enum-told-2
 enum-told-2 c = search needs

@@ -1,9 +1,10 @@
--- `begin` puts each cursor at its run's first number. The invariant is `Placed`; the measure is the number of runs left. Assumes nothing.
+-- `begin` puts each cursor at its run's first bin. The invariant is `Placed`; the measure is the number of runs left. Assumes nothing.
 use Prim.Native.Nat.{_-_}
 use lib.ListN.{length}
 use mathlib.Core.Path.{_≡_, sym, _∙_}
 use native.Mathlib.Omega.{arith}
-use Rattle.check_cursor.proofs.Placing.{Placed, placed-none, start-inside, start-fits, placed-on, placed-all}
+use Rattle.check_cursor.proofs.Placing.{Placed, placed-none, lent-next, place-inside, place-fits, placed-on, placed-all}
+use Rattle.check_cursor.specs.Cursors.{Begins}
 use borrow.Author.Needs.{needs}
 use Rattle.check_cursor.proofs.begin.Statement.{statement}
 use Rattle.check_cursor.proofs.begin.Tie as tie
@@ -14,6 +15,13 @@ Inv-loop numbers ends cursors₀ start₀ i₀ cursors start i =
 
 abbrev μ-loop : tie.MeasureT-loop
 μ-loop numbers ends cursors₀ start₀ i₀ cursors start i = length ends - i
+
+-- a turn's start, and what is required
+abbrev turn-of : tie.After-usize-of-u32 Inv-loop μ-loop → tie.In-loop Inv-loop μ-loop
+turn-of c = c .before .before
+
+abbrev pre-of : (t : tie.In-loop Inv-loop μ-loop) → (let a = t .before .before .before .before .before .args in Begins (a .numbers .now) (a .ends .now) (a .cursors .now))
+pre-of t = t .before .before .before .before .before .pre
 
 loop-holds : tie.Need-loop-holds Inv-loop μ-loop
 loop-holds c =
@@ -29,24 +37,30 @@ shared-slice-read-usize-of-u32 c = search needs
 usize-of-u32-requires : tie.Need-usize-of-u32-requires Inv-loop μ-loop
 usize-of-u32-requires c κs = search needs
 
+first-place-requires : tie.Need-first-place-requires Inv-loop μ-loop
+first-place-requires c κs =
+    let t = turn-of c in
+    lent-next (pre-of t) (t .before .loop .inv .0) (t .loop-test .taken) (c .usize-of-u32 .ensures)
+
 number-at-requires : tie.Need-number-at-requires Inv-loop μ-loop
 number-at-requires c κs =
-    let t = c .before .before in
-    let s = start-inside (t .before .before .before .before .before .pre) (t .before .loop .inv .0) (t .loop-test .taken) (c .usize-of-u32 .ensures) in
-    (omega (arith, s .0), s .1)
+    let u = c .before in
+    let t = turn-of u in
+    place-inside (pre-of t) (t .before .loop .inv .0) (t .loop-test .taken) (u .usize-of-u32 .ensures) (c .first-place .ensures)
 
 cursor-at-requires : tie.Need-cursor-at-requires Inv-loop μ-loop
 cursor-at-requires c κs =
-    let t = c .before .before .before in
-    start-fits (t .before .before .before .before .before .pre) (t .before .loop .inv .0) (t .loop-test .taken) (c .before .usize-of-u32 .ensures)
-    (c .number-at .ensures)
+    let f = c .before in
+    let u = f .before in
+    let t = turn-of u in
+    place-fits (pre-of t) (t .before .loop .inv .0) (t .loop-test .taken) (u .usize-of-u32 .ensures) (f .first-place .ensures) (c .number-at .ensures)
 
 mul-cursors : tie.Need-mul-cursors Inv-loop μ-loop
 mul-cursors c = search needs
 
 slice-write-cursors : tie.Need-slice-write-cursors Inv-loop μ-loop
 slice-write-cursors c =
-    let e = c .before .before .before .before .before .loop .inv .0 .lengths in
+    let e = turn-of (c .before .before .before) .before .loop .inv .0 .lengths in
     omega (arith, e)
 
 add-i : tie.Need-add-i Inv-loop μ-loop
@@ -58,9 +72,11 @@ loop-less c = search needs
 loop-again : tie.Need-loop-again Inv-loop μ-loop
 loop-again c =
     let n = c .before in
-    let t = n .before .before .before in
+    let f = n .before in
+    let u = f .before in
+    let t = turn-of u in
     let l = t .before .loop in (
-      placed-on (t .before .before .before .before .before .pre) (l .inv .0) (t .loop-test .taken) (n .before .usize-of-u32 .ensures) (n .number-at .ensures)
+      placed-on (pre-of t) (l .inv .0) (t .loop-test .taken) (u .usize-of-u32 .ensures) (f .first-place .ensures) (n .number-at .ensures)
           (c .cursor-at .result) (c .cursor-at .ensures),
       l .inv .1,
     )
@@ -81,6 +97,7 @@ begin-spec =
     mul-usize-of-u32
     shared-slice-read-usize-of-u32
     usize-of-u32-requires
+    first-place-requires
     number-at-requires
     cursor-at-requires
     mul-cursors

@@ -7,7 +7,7 @@ use mathlib.Core.Option.{Option}
 use mathlib.Core.Path.{_≡_, refl, sym, ap, _∙_}
 use native.Mathlib.Omega.{arith}
 use Rattle.model.specs.Refusals.{unrisenIn}
-use Rattle.model.specs.Runs.{unrisen}
+use Rattle.model.specs.Runs.{unrisenRun}
 use Rattle.rising.specs.Found.{foundPlace}
 use Rattle.model.proofs.Slices.{part-length}
 use Rattle.first_checks.proofs.Laws.{Ordered, next-end, next-ordered, runs-at, runs-on, runs-end}
@@ -21,9 +21,9 @@ record Here (numbers ends : List ℕ) (start i : ℕ) : Type 0 where
   same : unrisenIn 0 numbers ends ≡ unrisenIn start numbers (drop i ends)
 
 -- what holds of the run up to an end holds of the run up to the number that this end equals
-part-is : (numbers : List ℕ) (a : ℕ) {x y : ℕ} {o : Option ℕ} → x ≡ y → unrisen a (take (x - a) (drop a numbers)) ≡ o
-    → unrisen a (take (y - a) (drop a numbers)) ≡ o
-part-is numbers a e h = ap (λ z. unrisen a (take (z - a) (drop a numbers))) (sym e) ∙ h
+part-is : (numbers : List ℕ) (a : ℕ) {x y : ℕ} {o : Option ℕ} → x ≡ y → unrisenRun a (take (x - a) (drop a numbers)) ≡ o
+    → unrisenRun a (take (y - a) (drop a numbers)) ≡ o
+part-is numbers a e h = ap (λ z. unrisenRun a (take (z - a) (drop a numbers))) (sym e) ∙ h
 
 abbrev Inv-loop : tie.InvT-loop
 Inv-loop numbers ends start₀ i₀ start i = Here numbers ends start i

@@ -12,20 +12,30 @@ use Rattle.query_each.proofs.each_question.Statement.{statement}
 use Rattle.query_each.proofs.each_question.Tie as tie
 
 abbrev Inv-loop : tie.InvT-loop
-Inv-loop numbers ends masks thresholds answers₀ certificate₀ results₀ w₀ q₀ answers certificate results w q =
+Inv-loop numbers ends firsts masks thresholds answers₀ certificate₀ results₀ w₀ q₀ answers certificate results w q =
     Asked numbers ends masks thresholds w₀ answers₀ certificate₀ results₀ answers certificate results w q
     × (length answers ≡ length answers₀) × (length certificate ≡ length certificate₀) × (length results ≡ length results₀)
 
 abbrev μ-loop : tie.MeasureT-loop
-μ-loop numbers ends masks thresholds answers₀ certificate₀ results₀ w₀ q₀ answers certificate results w q =
+μ-loop numbers ends firsts masks thresholds answers₀ certificate₀ results₀ w₀ q₀ answers certificate results w q =
     length masks - q
+
+-- where the function starts; a turn's start; the question that a turn asks
+abbrev start-of : tie.After-slice-known3 Inv-loop μ-loop → tie.Start Inv-loop μ-loop
+start-of c = c .before .before .before .before .before .before .before .before
+
+abbrev turn-of : tie.After-question-arg3 Inv-loop μ-loop → tie.In-loop Inv-loop μ-loop
+turn-of c = c .before .before .before .before .before
+
+abbrev asked-of : tie.After-slice-known6 Inv-loop μ-loop → tie.After-question Inv-loop μ-loop
+asked-of c = c .before .before .before .before .before .before
 
 loop-holds : tie.Need-loop-holds Inv-loop μ-loop
 loop-holds c =
-    let s = c .before .before .before .before .before .before .before in
+    let s = start-of c in
     let a = s .args in (
       asked-none (a .numbers .now) (a .ends .now) (a .masks .now) (a .thresholds .now) (a .totals) (a .answers .now) (a .certificate .now) (a .results .now)
-          (s .pre .0) (s .pre .1),
+          (s .pre .0) (s .pre .2),
       refl,
       refl,
       refl,
@@ -45,49 +55,53 @@ shared-slice-read-question-2 c = let r = c .before .before .before .loop .inv .0
 
 question-requires : tie.Need-question-requires Inv-loop μ-loop
 question-requires c κs =
-    let i = c .before .before .before .before .before .before .loop .inv .0 in
-    let t = c .before .before .before .before .before .loop-test .taken in
+    let t = turn-of c in
+    let i = t .before .loop .inv .0 in
     let r = i .rows .room in
-    (i .fitted, i .rows .checked _ t, omega arith)
+    (i .fitted, start-of (t .before .before) .pre .1, i .rows .checked _ (t .loop-test .taken), omega arith)
 
 -- a row's length after the question
-kept : (c : tie.After-question Inv-loop μ-loop) → (let l = c .before .before .before .before .before .before .before in let u = c .question in
-    (length (u .last .1 .1 .1 .1 .1 .0) ≡ length (l .loop .answers)) × (length (u .last .1 .1 .1 .1 .1 .1 .0) ≡ length (l .loop .certificate))
-    × (length (u .last .1 .1 .1 .1 .1 .1 .1 .0) ≡ length (l .loop .results)))
-kept c = let k = c .question .kept in (k .1 .1 .1 .1 .1 .0, k .1 .1 .1 .1 .1 .1 .0, k .1 .1 .1 .1 .1 .1 .1 .0)
+kept : (c : tie.After-question Inv-loop μ-loop) → (let l = turn-of (c .before) .before in let u = c .question in
+    (length (u .last .1 .1 .1 .1 .1 .1 .0) ≡ length (l .loop .answers)) × (length (u .last .1 .1 .1 .1 .1 .1 .1 .0) ≡ length (l .loop .certificate))
+    × (length (u .last .1 .1 .1 .1 .1 .1 .1 .1 .0) ≡ length (l .loop .results)))
+kept c = let k = c .question .kept in (k .1 .1 .1 .1 .1 .1 .0, k .1 .1 .1 .1 .1 .1 .1 .0, k .1 .1 .1 .1 .1 .1 .1 .1 .0)
 
 same-length : tie.Need-same-length Inv-loop μ-loop
-same-length c = kept (c .before .before .before .before .before .before .before .before) .0 ∙ c .before .before .before .before .before .before .before .before .before .before .before .before .before .before .before .loop .inv .1
+same-length c = let q = asked-of (c .before .before) in kept q .0 ∙ turn-of (q .before) .before .loop .inv .1
 
 same-length-2 : tie.Need-same-length-2 Inv-loop μ-loop
-same-length-2 c = kept (c .before .before .before .before .before .before .before .before) .1 ∙ c .before .before .before .before .before .before .before .before .before .before .before .before .before .before .before .loop .inv .2
+same-length-2 c = let q = asked-of (c .before .before) in kept q .1 ∙ turn-of (q .before) .before .loop .inv .2
 
 same-length-3 : tie.Need-same-length-3 Inv-loop μ-loop
-same-length-3 c = kept (c .before .before .before .before .before .before .before .before) .2 ∙ c .before .before .before .before .before .before .before .before .before .before .before .before .before .before .before .loop .inv .3
+same-length-3 c = let q = asked-of (c .before .before) in kept q .2 ∙ turn-of (q .before) .before .loop .inv .3
 
 returns : tie.Need-returns Inv-loop μ-loop
 returns c =
-    let l = c .before .before .before .before .before .before .before .before .before .before .before .before .before .before .before in
-    let u = c .before .before .before .before .before .before .before .before .question in
-    asked-stopped _ _ _ _ _ _ _ _ _ _ _ _ _ (l .loop .inv .0) (u .last .1 .1 .1 .1 .1 .0) (u .last .1 .1 .1 .1 .1 .1 .0) (u .last .1 .1 .1 .1 .1 .1 .1 .0) (u .result) (c .before .before .before .before .before .before .before .before .before .before .before .before .before .before .loop-test .taken) (u .ensures) (c .if1 .taken)
+    let q = asked-of (c .before .before) in
+    let t = turn-of (q .before) in
+    let l = t .before in
+    let u = q .question in
+    asked-stopped _ _ _ _ _ _ _ _ _ _ _ _ _ (l .loop .inv .0) (u .last .1 .1 .1 .1 .1 .1 .0) (u .last .1 .1 .1 .1 .1 .1 .1 .0) (u .last .1 .1 .1 .1 .1 .1 .1 .1 .0) (u .result) (t .loop-test .taken) (u .ensures) (c .if1 .taken)
 
 -- eight bytes for each question fit a word, so their number does
 next-index : (q : ℕ) → Fits w64 (q * 8) → Fits w64 (q + 1)
 next-index q f = record { fits = omega (arith, f .fits) }
 
 add-q : tie.Need-add-q Inv-loop μ-loop
-add-q c = next-index (c .before .before .before .before .before .before .before .before .before .before .before .before .before .before .before .before .loop .q) (mul-question (c .before .before .before .before .before .before .before .before .before .before .before .before .before .before .before))
+add-q c = let t = turn-of (asked-of (c .before .before .before) .before) in next-index (t .before .loop .q) (mul-question t)
 
 loop-less : tie.Need-loop-less Inv-loop μ-loop
-loop-less c = let t = c .before .before .before .before .before .before .before .before .before .before .before .before .before .before .before .loop-test .taken in omega arith
+loop-less c = let t = turn-of (asked-of (c .before .before .before) .before) .loop-test .taken in omega arith
 
 loop-again : tie.Need-loop-again Inv-loop μ-loop
 loop-again c =
-    let l = c .before .before .before .before .before .before .before .before .before .before .before .before .before .before .before .before in
-    let u = c .before .before .before .before .before .before .before .before .before .question in
-    let k = kept (c .before .before .before .before .before .before .before .before .before) in (
-      asked-more _ _ _ _ _ _ _ _ _ _ _ _ _ (l .loop .inv .0) (u .last .1 .1 .1 .1 .1 .0) (u .last .1 .1 .1 .1 .1 .1 .0) (u .last .1 .1 .1 .1 .1 .1 .1 .0) (u .result)
-          (c .before .before .before .before .before .before .before .before .before .before .before .before .before .before .before .loop-test .taken) (u .ensures) (c .before .if1 .left) (k .2),
+    let q = asked-of (c .before .before .before) in
+    let t = turn-of (q .before) in
+    let l = t .before in
+    let u = q .question in
+    let k = kept q in (
+      asked-more _ _ _ _ _ _ _ _ _ _ _ _ _ (l .loop .inv .0) (u .last .1 .1 .1 .1 .1 .1 .0) (u .last .1 .1 .1 .1 .1 .1 .1 .0) (u .last .1 .1 .1 .1 .1 .1 .1 .1 .0) (u .result)
+          (t .loop-test .taken) (u .ensures) (c .before .if1 .left) (k .2),
       k .0 ∙ l .loop .inv .1,
       k .1 ∙ l .loop .inv .2,
       k .2 ∙ l .loop .inv .3,

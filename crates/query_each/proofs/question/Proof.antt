@@ -14,7 +14,7 @@ usize-of-u32-requires c κs = search needs
 
 -- where the function starts, from the walk's call and from its end
 abbrev start-of : tie.After-question-walk-arg2 → tie.Start
-start-of c = c .before .before .before .before .before .before .before .before
+start-of c = c .before .before .before .before .before .before .before .before .before
 
 abbrev begun : tie.After-question-walk → tie.Start
 begun c = start-of (c .before)
@@ -24,7 +24,8 @@ question-walk-requires c κs =
     let s = start-of c in
     let a = s .args in
     record {
-      checked = ap (chosenChecks (a .numbers .now) (a .ends .now) (a .chosen)) (c .before .before .usize-of-u32 .ensures) ∙ s .pre .1;
+      checked = ap (chosenChecks (a .numbers .now) (a .ends .now) (a .chosen)) (c .before .before .usize-of-u32 .ensures) ∙ s .pre .2;
+      placed = s .pre .1;
       answers-fit = s .pre .0 .answered;
       bytes-fit = s .pre .0 .written;
       allowed = s .pre .0 .allowed;
@@ -33,16 +34,16 @@ question-walk-requires c κs =
 -- what is then written fits the buffers
 fits : (c : tie.After-question-walk)
     → (let a = begun c .args in let e = c .question-walk .result in
-    Fitted (c .question-walk .last .1 .1 .1 .1 .0) (c .question-walk .last .1 .1 .1 .1 .1 .0)
+    Fitted (c .question-walk .last .1 .1 .1 .1 .1 .0) (c .question-walk .last .1 .1 .1 .1 .1 .1 .0)
     (record { answers = e .at .answers; parts = a .totals .parts + e .at .parts; bytes = e .at .bytes; tally = e .at .tally }))
 fits u =
     let s = begun u in
     let a = s .args in
-    fitted-after (a .numbers .now) (a .ends .now) (a .chosen) _ (a .threshold) (a .q) (a .totals) (a .answers .now) (a .certificate .now) (a .results .now) (u .question-walk .last .1 .1 .1 .1 .0) (u .question-walk .last .1 .1 .1 .1 .1 .0)
-    (u .before .before .before .usize-of-u32 .ensures) (s .pre .2) (s .pre .0) (u .question-walk .result) (u .question-walk .ensures)
+    fitted-after (a .numbers .now) (a .ends .now) (a .chosen) _ (a .threshold) (a .q) (a .totals) (a .answers .now) (a .certificate .now) (a .results .now) (u .question-walk .last .1 .1 .1 .1 .1 .0) (u .question-walk .last .1 .1 .1 .1 .1 .1 .0)
+    (u .before .before .before .usize-of-u32 .ensures) (s .pre .3) (s .pre .0) (u .question-walk .result) (u .question-walk .ensures)
 
-add-t13 : tie.Need-add-t13
-add-t13 c = let f = fits (c .before .before .before .before .before .before .before) in omega (arith, f .parts)
+add-t14 : tie.Need-add-t14
+add-t14 c = let f = fits (c .before .before .before .before .before .before .before) in omega (arith, f .parts)
 
 same-length : tie.Need-same-length
 same-length c = search needs
@@ -55,8 +56,8 @@ returns c =
     let u = c .before .before .before .before .before .before .before .before .before in
     let s = begun u in
     let a = s .args in
-    asks-stopped (a .numbers .now) (a .ends .now) (a .chosen) _ (a .threshold) (a .q) (a .totals) (a .answers .now) (a .certificate .now) (a .results .now) (u .question-walk .last .1 .1 .1 .1 .0) (u .question-walk .last .1 .1 .1 .1 .1 .0)
-    (u .before .before .before .usize-of-u32 .ensures) (s .pre .2) (s .pre .0) (u .question-walk .result) (u .question-walk .ensures) (c .if1 .taken)
+    asks-stopped (a .numbers .now) (a .ends .now) (a .chosen) _ (a .threshold) (a .q) (a .totals) (a .answers .now) (a .certificate .now) (a .results .now) (u .question-walk .last .1 .1 .1 .1 .1 .0) (u .question-walk .last .1 .1 .1 .1 .1 .1 .0)
+    (u .before .before .before .usize-of-u32 .ensures) (s .pre .3) (s .pre .0) (u .question-walk .result) (u .question-walk .ensures) (c .if1 .taken)
 
 tell-requires : tie.Need-tell-requires
 tell-requires c κs = search needs
@@ -75,8 +76,8 @@ returns-2 c =
     let u = c .before .before .before .before .before .before .before .before .before .before .before .before .before in
     let s = begun u in
     let a = s .args in
-    asks-on (a .numbers .now) (a .ends .now) (a .chosen) _ (a .threshold) (a .q) (a .totals) (a .answers .now) (a .certificate .now) (a .results .now) (u .question-walk .last .1 .1 .1 .1 .0) (u .question-walk .last .1 .1 .1 .1 .1 .0)
-    (u .before .before .before .usize-of-u32 .ensures) (s .pre .2) (s .pre .0) (u .question-walk .result) (u .question-walk .ensures) (c .before .before .before .before .if1 .left) _ (c .before .before .tell .ensures)
+    asks-on (a .numbers .now) (a .ends .now) (a .chosen) _ (a .threshold) (a .q) (a .totals) (a .answers .now) (a .certificate .now) (a .results .now) (u .question-walk .last .1 .1 .1 .1 .1 .0) (u .question-walk .last .1 .1 .1 .1 .1 .1 .0)
+    (u .before .before .before .usize-of-u32 .ensures) (s .pre .3) (s .pre .0) (u .question-walk .result) (u .question-walk .ensures) (c .before .before .before .before .if1 .left) _ (c .before .before .tell .ensures)
 
 pub question-spec : {M : Type 1} → statement M
 question-spec =
@@ -84,7 +85,7 @@ question-spec =
     (tie.spec
     usize-of-u32-requires
     question-walk-requires
-    add-t13
+    add-t14
     same-length
     same-length-2
     returns

@@ -1,31 +1,24 @@
--- `answer_all` asks all questions and returns how the call ended. Assumes nothing.
-use native.Mathlib.Omega.{arith}
-use Rattle.query_many.specs.Outcomes.{manyOutcomeIs}
-use Rattle.query_many.proofs.Calls.{fitted-first, rows-first, ends-so}
+-- `answer_all` lends a row of its own for the places of the runs' first bins. Assumes nothing.
+use Rattle.model.proofs.FirstChecks.{count-passed}
+use Rattle.model.proofs.ManyChecks.{many-passed}
 use borrow.Author.Needs.{needs}
 use Rattle.query_many.proofs.answer_all.Statement.{statement}
 use Rattle.query_many.proofs.answer_all.Tie as tie
 
--- where the function starts, from the questions' call
-abbrev start-of : tie.After-whole → tie.Start
-start-of c = c .before .before .before .before .before .before .before .before .before .before .before
+sub-answer-with : tie.Need-sub-answer-with
+sub-answer-with c = search needs
 
-whole-requires : tie.Need-whole-requires
-whole-requires c κs = search needs
+part-firsts-start : tie.Need-part-firsts-start
+part-firsts-start c = search needs
 
-each-question-requires : tie.Need-each-question-requires
-each-question-requires c κs =
-    let s = start-of c in
-    let a = s .args in (
-      fitted-first (c .whole .result) (a .answers .now) (a .certificate .now) (c .whole .ensures .1),
-      rows-first (a .numbers .now) (a .ends .now) (a .masks .now) (a .thresholds .now) (a .results .now) (s .pre),
-    )
+part-firsts-end : tie.Need-part-firsts-end
+part-firsts-end c =
+    let s = c .before .before .before .before .before .before .before in
+    let a = s .args in
+    count-passed (a .ends .now) (many-passed (a .numbers .now) (a .ends .now) (a .masks .now) (a .thresholds .now) (a .results .now) (s .pre) .counted) .1
 
-outcome-of-requires : tie.Need-outcome-of-requires
-outcome-of-requires c κs =
-    let u = c .before .before .before .before .before .before in
-    let e = u .before .whole .ensures in
-    omega (arith, u .each-question .ensures .left, e .0, e .1)
+answer-with-requires : tie.Need-answer-with-requires
+answer-with-requires c κs = search needs
 
 same-length : tie.Need-same-length
 same-length c = search needs
@@ -37,23 +30,16 @@ same-length-3 : tie.Need-same-length-3
 same-length-3 c = search needs
 
 returns : tie.Need-returns
-returns c =
-    let q = c .before .before .before .before .before .before .before in
-    let t = q .before in
-    let s = start-of t in
-    let a = s .args in
-    let u = q .each-question in
-    ends-so (a .numbers .now) (a .ends .now) (a .masks .now) (a .thresholds .now) (a .allowance) (t .whole .result) (a .answers .now) (a .certificate .now) (a .results .now)
-    (u .last .1 .1 .1 .1 .0) (u .last .1 .1 .1 .1 .1 .0) (u .last .1 .1 .1 .1 .1 .1 .0) (u .result) (manyOutcomeIs (c .outcome-of .result)) (s .pre) (t .whole .ensures)
-    (u .ensures) (c .outcome-of .ensures)
+returns c = search needs
 
 pub answer-all-spec : {M : Type 1} → statement M
 answer-all-spec =
     tie.close
     (tie.spec
-    whole-requires
-    each-question-requires
-    outcome-of-requires
+    sub-answer-with
+    part-firsts-start
+    part-firsts-end
+    answer-with-requires
     same-length
     same-length-2
     same-length-3

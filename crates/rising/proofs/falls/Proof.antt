@@ -13,13 +13,13 @@ use Rattle.rising.proofs.falls.Statement.{statement}
 use Rattle.rising.proofs.falls.Tie as tie
 
 abbrev Inv-loop : tie.InvT-loop
-Inv-loop run from count₀ i₀ count i = (i ≤ block) × (count ≡ fallsIn run from i)
+Inv-loop list from count₀ i₀ count i = (i ≤ block) × (count ≡ fallsIn list from i)
 
 abbrev μ-loop : tie.MeasureT-loop
-μ-loop run from count₀ i₀ count i = block - i
+μ-loop list from count₀ i₀ count i = block - i
 
 loop-holds : tie.Need-loop-holds Inv-loop μ-loop
-loop-holds c = (omega arith, sym (falls-first (c .before .args .run .now) (c .before .args .from)))
+loop-holds c = (omega arith, sym (falls-first (c .before .args .list .now) (c .before .args .from)))
 
 add-place : tie.Need-add-place Inv-loop μ-loop
 add-place c = search needs
@@ -48,8 +48,8 @@ add-count c =
     let a = l .before .before .args in
     let v = l .loop .inv in
     let e = c .fall .ensures in
-    let m = falls-most (a .run .now) (a .from) (l .loop .i) in
-    let o = one-most (leb (getD (a .run .now) (a .from + l .loop .i) 0) (getD (a .run .now) (a .from + l .loop .i - 1) 0)) in
+    let m = falls-most (a .list .now) (a .from) (l .loop .i) in
+    let o = one-most (leb (getD (a .list .now) (a .from + l .loop .i) 0) (getD (a .list .now) (a .from + l .loop .i - 1) 0)) in
     record { fits = omega (arith, v .0, v .1) }
 
 add-i : tie.Need-add-i Inv-loop μ-loop
@@ -63,7 +63,7 @@ loop-again c =
     let l = c .before .before .before .before in
     let a = l .before .before .args in
     let v = l .loop .inv in
-    (omega arith, ap₂ _+_ (v .1) (c .fall .ensures) ∙ sym (falls-next (a .run .now) (a .from) (l .loop .i)))
+    (omega arith, ap₂ _+_ (v .1) (c .fall .ensures) ∙ sym (falls-next (a .list .now) (a .from) (l .loop .i)))
 
 returns : tie.Need-returns Inv-loop μ-loop
 returns c =
@@ -71,7 +71,7 @@ returns c =
     let a = l .before .before .args in
     let v = l .loop .inv in
     let e : l .loop .i ≡ block = omega (arith, v .0) in
-    v .1 ∙ ap (fallsIn (a .run .now) (a .from)) e
+    v .1 ∙ ap (fallsIn (a .list .now) (a .from)) e
 
 pub falls-spec : {M : Type 1} → statement M
 falls-spec =

@@ -1,88 +1,62 @@
--- `first_unrisen` gives the first number of a run that is not above the one before. Where a block of numbers holds the first such, or fewer are left, it
--- goes from number to number. The invariant: it is the first from place i on. The measure is what is left. Assumes nothing.
-use Prim.Native.Nat.{_-_, _≤_}
-use lib.ListN.{length}
-use mathlib.Core.Path.{_≡_, sym, _∙_}
-use native.Mathlib.Omega.{arith}
+-- `first_unrisen` passes over the zeros at a run's start and compares the numbers after them. Assumes nothing.
+use Prim.Native.Nat.{_≤_}
 use borrow.Author.Needs.{needs}
-use Rattle.model.specs.Runs.{unrisen}
-use Rattle.rising.specs.Rising.{unrisenFrom}
-use Rattle.rising.proofs.Rising.{unrisen-stop, unrisen-on, unrisen-end}
+use lib.ListN.{length}
+use mathlib.Core.Path.{sym, _∙_}
+use native.Mathlib.Omega.{arith}
+use Rattle.model.proofs.From.{rank-le}
+use Rattle.model.proofs.Slices.{part-length}
+use Rattle.model.specs.Runs.{firstBin}
+use Rattle.rising.proofs.Rising.{unrisen-run}
 use Rattle.rising.proofs.first_unrisen.Statement.{statement}
 use Rattle.rising.proofs.first_unrisen.Tie as tie
 
-abbrev Inv-loop : tie.InvT-loop
-Inv-loop run start i₀ i = (1 ≤ i) × (unrisen start run ≡ unrisenFrom start i run)
+leading-zeros-requires : tie.Need-leading-zeros-requires
+leading-zeros-requires c κs = search needs
 
-abbrev μ-loop : tie.MeasureT-loop
-μ-loop run start i₀ i = length run - i
+-- the zeros lie in the run
+zeros-inside : (c : tie.After-leading-zeros) → c .leading-zeros .result ≤ length (c .before .before .args .run .now)
+zeros-inside c = let k = rank-le firstBin (c .before .before .args .run .now) in let e = c .leading-zeros .ensures in omega arith
 
-risen-part-requires : tie.Need-risen-part-requires Inv-loop μ-loop
-risen-part-requires c κs = search needs
+mul-first-not-above : tie.Need-mul-first-not-above
+mul-first-not-above c = let k = zeros-inside c in omega arith
 
-loop-holds : tie.Need-loop-holds Inv-loop μ-loop
-loop-holds c =
-    let r = c .risen-part .ensures in
-    (r .low, r .same (c .before .before .args .start))
+sub-first-not-above : tie.Need-sub-first-not-above
+sub-first-not-above c = let k = zeros-inside c in omega arith
 
-mul-if1 : tie.Need-mul-if1 Inv-loop μ-loop
-mul-if1 c = omega arith
+part-first-not-above-start : tie.Need-part-first-not-above-start
+part-first-not-above-start c = zeros-inside c
 
-shared-slice-read-if1 : tie.Need-shared-slice-read-if1 Inv-loop μ-loop
-shared-slice-read-if1 c = omega arith
+part-first-not-above-end : tie.Need-part-first-not-above-end
+part-first-not-above-end c = search needs
 
-sub-if1 : tie.Need-sub-if1 Inv-loop μ-loop
-sub-if1 c = omega arith
+add-first-not-above : tie.Need-add-first-not-above
+add-first-not-above c = let k = zeros-inside (c .before) in let p = c .before .before .before .pre in record { fits = omega arith }
 
-mul-if1-2 : tie.Need-mul-if1-2 Inv-loop μ-loop
-mul-if1-2 c = omega arith
+first-not-above-requires : tie.Need-first-not-above-requires
+first-not-above-requires c κs =
+    let z = c .before in
+    let k = zeros-inside z in
+    let r = z .before .before .args .run .now in
+    let n = part-length (z .leading-zeros .result) (length r) r (omega arith) in
+    let p = z .before .before .pre in
+    omega arith
 
-shared-slice-read-if1-2 : tie.Need-shared-slice-read-if1-2 Inv-loop μ-loop
-shared-slice-read-if1-2 c = omega arith
-
-add-t12 : tie.Need-add-t12 Inv-loop μ-loop
-add-t12 c = let p = c .before .before .before .before .before .before .before .pre in omega arith
-
-returns : tie.Need-returns Inv-loop μ-loop
+returns : tie.Need-returns
 returns c =
-    let l = c .before .before .before .before .loop in
-    let a = c .before .before .before .before .before .before .before .args in
-    sym (l .inv .1 ∙ unrisen-stop (a .start) (a .run .now) (l .i) (l .inv .0) (omega arith) (c .if1 .taken))
-
-add-i : tie.Need-add-i Inv-loop μ-loop
-add-i c = omega arith
-
-loop-less : tie.Need-loop-less Inv-loop μ-loop
-loop-less c = omega arith
-
-loop-again : tie.Need-loop-again Inv-loop μ-loop
-loop-again c =
-    let l = c .before .before .before .before .loop in
-    let a = c .before .before .before .before .before .before .before .args in
-    (omega arith, l .inv .1 ∙ unrisen-on (a .start) (a .run .now) (l .i) (l .inv .0) (omega arith) (c .if1 .left))
-
-returns-2 : tie.Need-returns-2 Inv-loop μ-loop
-returns-2 c =
-    let l = c .before .loop in
-    let a = c .before .before .before .before .args in
-    sym (l .inv .1 ∙ unrisen-end (a .start) (a .run .now) (l .i) (c .loop-test .left))
+    let z = c .before .before in
+    let a = z .before .before .args in
+    c .first-not-above .ensures ∙ sym (unrisen-run (a .start) (z .leading-zeros .result) (a .run .now) (z .leading-zeros .ensures))
 
 pub first-unrisen-spec : {M : Type 1} → statement M
 first-unrisen-spec =
     tie.close
     (tie.spec
-    Inv-loop
-    μ-loop
-    risen-part-requires
-    loop-holds
-    mul-if1
-    shared-slice-read-if1
-    sub-if1
-    mul-if1-2
-    shared-slice-read-if1-2
-    add-t12
-    returns
-    add-i
-    loop-less
-    loop-again
-    returns-2)
+    leading-zeros-requires
+    mul-first-not-above
+    sub-first-not-above
+    part-first-not-above-start
+    part-first-not-above-end
+    add-first-not-above
+    first-not-above-requires
+    returns)

@@ -11,14 +11,14 @@ use Rattle.rising.proofs.risen_part.Statement.{statement}
 use Rattle.rising.proofs.risen_part.Tie as tie
 
 abbrev Inv-loop : tie.InvT-loop
-Inv-loop run n i₀ i = RisenTo run i × (n ≡ length run) × (i ≤ n + 1)
+Inv-loop list n i₀ i = RisenTo list i × (n ≡ length list) × (i ≤ n + 1)
 
 abbrev μ-loop : tie.MeasureT-loop
-μ-loop run n i₀ i = n - i
+μ-loop list n i₀ i = n - i
 
 loop-holds : tie.Need-loop-holds Inv-loop μ-loop
 loop-holds c =
-    let r = c .before .args .run .now in
+    let r = c .before .args .list .now in
     (record { low = omega arith; same = λ a. unrisen-start a r }, refl, omega arith)
 
 add-loop : tie.Need-add-loop Inv-loop μ-loop
@@ -41,7 +41,7 @@ loop-less c = search needs
 loop-again : tie.Need-loop-again Inv-loop μ-loop
 loop-again c =
     let l = c .before .before .before in
-    let r = l .before .before .args .run .now in
+    let r = l .before .before .args .list .now in
     let v = l .loop .inv in
     let z : fallsIn r (l .loop .i) block ≡ 0 = (let e = c .before .falls .ensures in omega arith) in (
       record {

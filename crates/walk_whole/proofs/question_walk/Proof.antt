@@ -13,9 +13,12 @@ sub-whole-walk c = search needs
 part-positions-start : tie.Need-part-positions-start
 part-positions-start c = search needs
 
-few : (c : tie.After-slice-known2) → length (c .before .before .before .before .args .ends .now) ≤ mostRuns
+abbrev start-of : tie.After-slice-known2 → tie.Start
+start-of c = c .before .before .before .before .before
+
+few : (c : tie.After-slice-known2) → length (start-of c .args .ends .now) ≤ mostRuns
 few c =
-    let s = c .before .before .before .before in
+    let s = start-of c in
     let a = s .args in
     chosen-passed (a .numbers .now) (a .ends .now) (a .chosen) (a .threshold) (s .pre .checked) .few-runs
 
@@ -32,7 +35,7 @@ part-keys-end : tie.Need-part-keys-end
 part-keys-end c = few (c .before)
 
 whole-walk-requires : tie.Need-whole-walk-requires
-whole-walk-requires c κs = record { asked = c .before .before .before .before .before .before .before .before .pre; positions-size = search needs; keys-size = search needs }
+whole-walk-requires c κs = record { asked = start-of (c .before .before .before .before) .pre; positions-size = search needs; keys-size = search needs }
 
 same-length : tie.Need-same-length
 same-length c = search needs

@@ -9,11 +9,15 @@ use borrow.Author.Needs.{needs}
 use Rattle.walk_whole.proofs.whole_walk.Statement.{statement}
 use Rattle.walk_whole.proofs.whole_walk.Tie as tie
 
+-- what is known of the numbers, and the start
+abbrev known-of : tie.After-begin-arg2 → tie.After-shared-slice-known
+known-of c = c .before .before .before .before .before .before .before .before
+
 begin-requires : tie.Need-begin-requires
 begin-requires c κs =
-    let s = c .before .before .before .before .before .before .before .before in
+    let s = known-of c .before in
     let a = s .args in
-    begin-ready (a .numbers .now) (a .ends .now) (a .chosen) (a .threshold) (a .positions .now) (a .keys .now) (a .answers .now) (a .certificate .now) (a .answered) (a .written) (a .tally) (s .pre)
+    begin-ready (a .numbers .now) (a .ends .now) (a .firsts .now) (a .chosen) (a .threshold) (a .positions .now) (a .keys .now) (a .answers .now) (a .certificate .now) (a .answered) (a .written) (a .tally) (s .pre)
 
 fits-bins : (c : tie.After-shared-slice-known) → Fits pastBin (c .before .args .numbers .now)
 fits-bins c = let e = past-is in fits pastBin (c .before .args .numbers .now) (λ i. omega (arith, c .shared-slice-known .given i))
@@ -21,11 +25,11 @@ fits-bins c = let e = past-is in fits pastBin (c .before .args .numbers .now) (�
 all-rounds-requires : tie.Need-all-rounds-requires
 all-rounds-requires c κs =
     let g = c .before .before .before .before .before .before .before .before in
-    let k = g .before .before .before .before .before .before .before .before in
+    let k = known-of (g .before) in
     let s = k .before in
     let a = s .args in
-    stands-first (a .numbers .now) (a .ends .now) (a .chosen) (a .threshold) (a .positions .now) (a .keys .now) (a .answers .now) (a .certificate .now) (a .answered) (a .written) (a .tally) (s .pre)
-    (fits-bins k) (g .begin .last .1 .1 .1 .0) (g .begin .last .1 .1 .1 .1 .0) (g .begin .result) (g .begin .ensures)
+    stands-first (a .numbers .now) (a .ends .now) (a .firsts .now) (a .chosen) (a .threshold) (a .positions .now) (a .keys .now) (a .answers .now) (a .certificate .now) (a .answered) (a .written) (a .tally) (s .pre)
+    (fits-bins k) (g .begin .last .1 .1 .1 .1 .0) (g .begin .last .1 .1 .1 .1 .1 .0) (g .begin .result) (g .begin .ensures)
 
 same-length : tie.Need-same-length
 same-length c = search needs
@@ -43,11 +47,11 @@ returns : tie.Need-returns
 returns c =
     let u = c .before .before .before .before .before .before .before .before in
     let g = u .before .before .before .before .before .before .before .before .before in
-    let k = g .before .before .before .before .before .before .before .before in
+    let k = known-of (g .before) in
     let s = k .before in
     let a = s .args in
-    comes-first (a .numbers .now) (a .ends .now) (a .chosen) (a .threshold) (a .positions .now) (a .keys .now) (a .answers .now) (a .certificate .now) (a .answered) (a .written) (a .tally) (s .pre)
-    (fits-bins k) (g .begin .last .1 .1 .1 .0) (g .begin .last .1 .1 .1 .1 .0) (g .begin .result) (g .begin .ensures)
+    comes-first (a .numbers .now) (a .ends .now) (a .firsts .now) (a .chosen) (a .threshold) (a .positions .now) (a .keys .now) (a .answers .now) (a .certificate .now) (a .answered) (a .written) (a .tally) (s .pre)
+    (fits-bins k) (g .begin .last .1 .1 .1 .1 .0) (g .begin .last .1 .1 .1 .1 .1 .0) (g .begin .result) (g .begin .ensures)
     (u .all-rounds .last .1 .1 .1 .1 .1 .1 .0) (u .all-rounds .last .1 .1 .1 .1 .1 .1 .1 .0) (u .all-rounds .result) (u .all-rounds .ensures)
 
 pub whole-walk-spec : {M : Type 1} → statement M

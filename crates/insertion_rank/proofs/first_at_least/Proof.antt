@@ -4,11 +4,11 @@ use Prim.Native.Nat.{_+_, _-_, _≤_}
 use denote.Ref.{now}
 use lib.ListN.{length}
 use native.Mathlib.Omega.{arith}
-use Rattle.model.specs.Rows.{rank}
+use Rattle.model.specs.Runs.{rank}
 use Rattle.model.proofs.From.{rank-le}
-use Rattle.model.proofs.Searching.{place-low, place-high}
-use Rattle.between.proofs.first_at_least.Statement.{statement}
-use Rattle.between.proofs.first_at_least.Tie as tie
+use Rattle.model.proofs.Ordered.{place-low, place-high}
+use Rattle.insertion_rank.proofs.first_at_least.Statement.{statement}
+use Rattle.insertion_rank.proofs.first_at_least.Tie as tie
 
 abbrev Inv-loop : tie.InvT-loop
 Inv-loop list v lo₀ hi₀ lo hi = (lo ≤ rank v list) × ((rank v list ≤ hi) × (hi ≤ length list))
