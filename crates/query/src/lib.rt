@@ -75,7 +75,6 @@ fn answer_with(
     let end = walk_whole::question_walk(
         numbers,
         ends,
-        firsts,
         mask::all_runs(ends.len()),
         threshold,
         answers,
@@ -83,6 +82,7 @@ fn answer_with(
         0,
         0,
         walk_tally::whole(allowance),
+        firsts,
     );
     outcome_of(end, allowance)
 }

@@ -55,7 +55,6 @@ fn question(
     let end = walk_whole::question_walk(
         numbers,
         ends,
-        firsts,
         chosen,
         arith::usize_of_u32(threshold),
         answers,
@@ -63,6 +62,7 @@ fn question(
         totals.answers,
         totals.bytes,
         totals.tally,
+        firsts,
     );
     let w = end.at;
     let at = Totals {

@@ -1,12 +1,12 @@
 // Where each run's bins begin, and the runs put where a walk begins, with their keys in the row.
 ghost use mathlib.Core.Path.{_≡_};
 ghost use mathlib.Core.List.{map};
-ghost use Prim.Native.Nat.{_≤_, _<_};
+ghost use Prim.Native.Nat.{_≤_};
 ghost use lib.ListN.{length};
 ghost use Rattle.walk_state.specs.State.{runsAt, Holds};
-ghost use Rattle.model.specs.Runs.{runs, mostRuns, maskBits};
+ghost use Rattle.model.specs.Runs.{runs, mostRuns};
 ghost use Rattle.walk_state.specs.Moves.{PlacedAt};
-ghost use Rattle.walk_begin.specs.Begin.{Lent, BeginReady, ChosenAt, standing, beginsAt};
+ghost use Rattle.walk_begin.specs.Begin.{Lent, BeginReady, ChosenAt, standing};
 
 // Puts the place of each run's first bin into a row. The zeros at a run's start are passed over here, once for all questions over these runs.
 pub fn first_places(numbers: &[u32], ends: &[u32], firsts: &mut [u32])
@@ -23,17 +23,6 @@ pub fn first_places(numbers: &[u32], ends: &[u32], firsts: &mut [u32])
     }
 }
 
-// Where a run with its first bin at `first` begins: there, or at its end where it is not chosen.
-fn begins_at(chosen: u64, run: u32, first: u32, end: u32) -> u32
-    requires { ⌜ run < maskBits ⌝ }
-    ensures { λ r. ⌜ r ≡ beginsAt chosen run first end ⌝ }
-{
-    if mask::names_run(chosen, run) {
-        return first;
-    }
-    end
-}
-
 // Puts each chosen run at its first bin and every other at its end.
 fn begin_each(ends: &[u32], firsts: &[u32], chosen: u64, positions: &mut [u32])
     requires { ⌜ (length (now ends) ≤ mostRuns) × (length (now firsts) ≡ length (now ends)) × (length (now positions) ≡ length (now ends)) ⌝ }
@@ -41,7 +30,11 @@ fn begin_each(ends: &[u32], firsts: &[u32], chosen: u64, positions: &mut [u32])
 {
     let mut i: usize = 0;
     while i < ends.len() {
-        positions[i] = begins_at(chosen, i as u32, firsts[i], ends[i]);
+        if mask::names_run(chosen, i as u32) {
+            positions[i] = firsts[i];
+        } else {
+            positions[i] = ends[i];
+        }
         i += 1;
     }
 }

@@ -8,7 +8,6 @@ use walk_write::State;
 fn whole_walk(
     numbers: &[u32],
     ends: &[u32],
-    firsts: &[u32],
     chosen: u64,
     threshold: usize,
     positions: &mut [u32],
@@ -18,6 +17,7 @@ fn whole_walk(
     answered: usize,
     written: usize,
     tally: u64,
+    firsts: &[u32],
 ) -> End
     requires { ⌜ Begins (now numbers) (now ends) (now firsts) chosen threshold (now positions) (now keys) (now answers) (now certificate) answered written tally ⌝ }
     ensures { λ r. ⌜ ComesTo (now (numbers .entry)) (now (ends .entry)) chosen threshold answered written tally (now (answers .entry)) (now (certificate .entry)) (now (answers .exit)) (now (certificate .exit)) r ⌝ }
@@ -48,7 +48,6 @@ fn whole_walk(
 pub fn question_walk(
     numbers: &[u32],
     ends: &[u32],
-    firsts: &[u32],
     chosen: u64,
     threshold: usize,
     answers: &mut [u32],
@@ -56,6 +55,7 @@ pub fn question_walk(
     answered: usize,
     written: usize,
     tally: u64,
+    firsts: &[u32],
 ) -> End
     requires { ⌜ Asked (now numbers) (now ends) (now firsts) chosen threshold (now answers) (now certificate) answered written tally ⌝ }
     ensures { λ r. ⌜ ComesTo (now (numbers .entry)) (now (ends .entry)) chosen threshold answered written tally (now (answers .entry)) (now (certificate .entry)) (now (answers .exit)) (now (certificate .exit)) r ⌝ }
@@ -66,7 +66,6 @@ pub fn question_walk(
     whole_walk(
         numbers,
         ends,
-        firsts,
         chosen,
         threshold,
         &mut positions[0..k],
@@ -76,5 +75,6 @@ pub fn question_walk(
         answered,
         written,
         tally,
+        firsts,
     )
 }

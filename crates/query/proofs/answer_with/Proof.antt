@@ -13,7 +13,7 @@ use Rattle.query.proofs.answer_with.Tie as tie
 abbrev start-of : tie.After-first-places-arg → tie.Start
 start-of c = c .before .before .before .before .before .before
 
-abbrev places-of : tie.After-question-walk-arg → tie.After-first-places
+abbrev places-of : tie.After-all-runs → tie.After-first-places
 places-of c = c .before .before .before
 
 passed-first : (s : tie.Start) → Passed (s .args .numbers .now) (s .args .ends .now) (s .args .threshold)
@@ -26,15 +26,16 @@ first-places-requires c κs =
     record { rise = p .ends-rise; last = p .ends-last; risen = p .numbers-rise; size = s .pre .1 }
 
 all-runs-requires : tie.Need-all-runs-requires
-all-runs-requires c κs = let k = passed-first (start-of (places-of c .before)) .few-runs in omega arith
+all-runs-requires c κs = let k = passed-first (start-of (c .before .before .before)) .few-runs in omega arith
 
 whole-requires : tie.Need-whole-requires
 whole-requires c κs = search needs
 
 question-walk-requires : tie.Need-question-walk-requires
 question-walk-requires c κs =
-    let m = c .before .before .before in
-    let f = places-of (m .before) in
+    let t = c .before in
+    let m = t .before .before .before in
+    let f = places-of m in
     let s = start-of (f .before) in
     let a = s .args in
     record {
@@ -44,13 +45,13 @@ question-walk-requires c κs =
       placed = f .first-places .ensures;
       answers-fit = search needs;
       bytes-fit = search needs;
-      allowed = omega (arith, c .whole .ensures .1);
+      allowed = omega (arith, t .whole .ensures .1);
     }
 
 outcome-of-requires : tie.Need-outcome-of-requires
 outcome-of-requires c κs =
     let w = c .before .before .before .before in
-    let e = w .before .whole .ensures in
+    let e = w .before .before .whole .ensures in
     omega (arith, w .question-walk .ensures .left-then, e .0, e .1)
 
 same-length : tie.Need-same-length
@@ -65,12 +66,12 @@ same-length-3 c = search needs
 returns : tie.Need-returns
 returns c =
     let w = c .before .before .before .before .before in
-    let t = w .before in
+    let t = w .before .before in
     let m = t .before .before .before in
-    let s = start-of (places-of (m .before) .before) in
+    let s = start-of (places-of m .before) in
     let a = s .args in
     ends-so (a .numbers .now) (a .ends .now) (m .all-runs .result) (a .threshold) (a .allowance) (t .whole .result) (a .answers .now) (a .certificate .now)
-    (w .question-walk .last .1 .1 .1 .1 .1 .0) (w .question-walk .last .1 .1 .1 .1 .1 .1 .0) (w .question-walk .result) (outcomeIs (c .outcome-of .result)) (s .pre .0)
+    (w .question-walk .last .1 .1 .1 .1 .0) (w .question-walk .last .1 .1 .1 .1 .1 .0) (w .question-walk .result) (outcomeIs (c .outcome-of .result)) (s .pre .0)
     (m .all-runs .ensures) (t .whole .ensures) (w .question-walk .ensures) (c .outcome-of .ensures)
 
 pub answer-with-spec : {M : Type 1} → statement M

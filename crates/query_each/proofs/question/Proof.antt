@@ -34,12 +34,12 @@ question-walk-requires c κs =
 -- what is then written fits the buffers
 fits : (c : tie.After-question-walk)
     → (let a = begun c .args in let e = c .question-walk .result in
-    Fitted (c .question-walk .last .1 .1 .1 .1 .1 .0) (c .question-walk .last .1 .1 .1 .1 .1 .1 .0)
+    Fitted (c .question-walk .last .1 .1 .1 .1 .0) (c .question-walk .last .1 .1 .1 .1 .1 .0)
     (record { answers = e .at .answers; parts = a .totals .parts + e .at .parts; bytes = e .at .bytes; tally = e .at .tally }))
 fits u =
     let s = begun u in
     let a = s .args in
-    fitted-after (a .numbers .now) (a .ends .now) (a .chosen) _ (a .threshold) (a .q) (a .totals) (a .answers .now) (a .certificate .now) (a .results .now) (u .question-walk .last .1 .1 .1 .1 .1 .0) (u .question-walk .last .1 .1 .1 .1 .1 .1 .0)
+    fitted-after (a .numbers .now) (a .ends .now) (a .chosen) _ (a .threshold) (a .q) (a .totals) (a .answers .now) (a .certificate .now) (a .results .now) (u .question-walk .last .1 .1 .1 .1 .0) (u .question-walk .last .1 .1 .1 .1 .1 .0)
     (u .before .before .before .usize-of-u32 .ensures) (s .pre .3) (s .pre .0) (u .question-walk .result) (u .question-walk .ensures)
 
 add-t14 : tie.Need-add-t14
@@ -56,7 +56,7 @@ returns c =
     let u = c .before .before .before .before .before .before .before .before .before in
     let s = begun u in
     let a = s .args in
-    asks-stopped (a .numbers .now) (a .ends .now) (a .chosen) _ (a .threshold) (a .q) (a .totals) (a .answers .now) (a .certificate .now) (a .results .now) (u .question-walk .last .1 .1 .1 .1 .1 .0) (u .question-walk .last .1 .1 .1 .1 .1 .1 .0)
+    asks-stopped (a .numbers .now) (a .ends .now) (a .chosen) _ (a .threshold) (a .q) (a .totals) (a .answers .now) (a .certificate .now) (a .results .now) (u .question-walk .last .1 .1 .1 .1 .0) (u .question-walk .last .1 .1 .1 .1 .1 .0)
     (u .before .before .before .usize-of-u32 .ensures) (s .pre .3) (s .pre .0) (u .question-walk .result) (u .question-walk .ensures) (c .if1 .taken)
 
 tell-requires : tie.Need-tell-requires
@@ -76,7 +76,7 @@ returns-2 c =
     let u = c .before .before .before .before .before .before .before .before .before .before .before .before .before in
     let s = begun u in
     let a = s .args in
-    asks-on (a .numbers .now) (a .ends .now) (a .chosen) _ (a .threshold) (a .q) (a .totals) (a .answers .now) (a .certificate .now) (a .results .now) (u .question-walk .last .1 .1 .1 .1 .1 .0) (u .question-walk .last .1 .1 .1 .1 .1 .1 .0)
+    asks-on (a .numbers .now) (a .ends .now) (a .chosen) _ (a .threshold) (a .q) (a .totals) (a .answers .now) (a .certificate .now) (a .results .now) (u .question-walk .last .1 .1 .1 .1 .0) (u .question-walk .last .1 .1 .1 .1 .1 .0)
     (u .before .before .before .usize-of-u32 .ensures) (s .pre .3) (s .pre .0) (u .question-walk .result) (u .question-walk .ensures) (c .before .before .before .before .if1 .left) _ (c .before .before .tell .ensures)
 
 pub question-spec : {M : Type 1} → statement M

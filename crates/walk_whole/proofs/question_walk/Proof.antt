@@ -13,10 +13,10 @@ sub-whole-walk c = search needs
 part-positions-start : tie.Need-part-positions-start
 part-positions-start c = search needs
 
-abbrev start-of : tie.After-slice-known2 → tie.Start
+abbrev start-of : tie.After-shared-slice-known3 → tie.Start
 start-of c = c .before .before .before .before .before
 
-few : (c : tie.After-slice-known2) → length (start-of c .args .ends .now) ≤ mostRuns
+few : (c : tie.After-shared-slice-known3) → length (start-of c .args .ends .now) ≤ mostRuns
 few c =
     let s = start-of c in
     let a = s .args in
