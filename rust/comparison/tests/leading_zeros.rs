@@ -7,8 +7,8 @@ use comparison::certificates::Task;
 use comparison::many::{self, Call};
 use comparison::question::{whole, Comparer, Limits, Question};
 use comparison::verdicts::{walks_own, Seen};
-use reference::testing::{lay_out, marked, slices, M};
-use reference::{all_runs, encode, first_checks, Refusal, MAX_NUMBERS, MAX_RUNS};
+use reference::testing::{gap, lay_out, marked, slices, M};
+use reference::{all_runs, bins, encode, first_checks, Refusal, MAX_NUMBERS, MAX_RUNS};
 
 /// What limits are lent where the first checks refuse.
 const SOME: Limits = Limits {
@@ -71,7 +71,8 @@ impl Calls {
     }
 
     /// Checks the walk's own certificates, or bytes that are none if there is no
-    /// walk.
+    /// walk, and one gap over all bins, which is true if the runs that it names have
+    /// none.
     fn compare_checks(&mut self, runs: &[Vec<u32>], question: Question, is_walked: bool) {
         let runs = slices(runs);
         let own = |task| match is_walked {
@@ -81,6 +82,11 @@ impl Calls {
         let all = Task::of_all(&runs, question.threshold);
         let number = self.checked.compare(0, question, &own(all));
         assert_eq!(number == 0, is_walked);
+        let number = self
+            .checked
+            .compare(0, question, &encode(&[gap(1, M, all.chosen)]));
+        let is_empty = runs.iter().all(|run| bins(run).is_empty());
+        assert_eq!(number == 0, is_walked && is_empty);
         let first = Task {
             chosen: 1,
             threshold: 1,
@@ -126,6 +132,7 @@ fn every_place_of_a_fault() {
         [64, 63],
         [65, 64],
         [128, 65],
+        [66, 129],
     ] {
         let runs = [&[][..], &bins, &[5, 5]];
         let good = marked(&runs, &[before, marks, 2]);
@@ -144,18 +151,15 @@ fn every_place_of_a_fault() {
 /// Rows of as many numbers as are allowed, nearly all of them marks: one run, and
 /// 64 of which all or the first alone begin with many.
 fn most_marks() -> [Vec<Vec<u32>>; 4] {
-    let three = |i: usize| [1 + i as u32, 500, M];
-    let each = MAX_NUMBERS / MAX_RUNS;
+    let three_bins: Vec<[u32; 3]> = (1..=MAX_RUNS as u32).map(|i| [i, 500, M]).collect();
     let one_bin: Vec<[u32; 1]> = (1..=MAX_RUNS as u32).map(|i| [i % 7 + 1]).collect();
+    let each = MAX_NUMBERS / MAX_RUNS;
     let mut first_alone = [0; MAX_RUNS];
     first_alone[0] = MAX_NUMBERS - MAX_RUNS;
     [
         marked(&[[5, 9, M]], &[MAX_NUMBERS - 3]),
         marked(&[[]], &[MAX_NUMBERS]),
-        marked(
-            &std::array::from_fn::<_, MAX_RUNS, _>(three),
-            &[each - 3; MAX_RUNS],
-        ),
+        marked(&three_bins, &[each - 3; MAX_RUNS]),
         marked(&one_bin, &first_alone),
     ]
 }
@@ -169,20 +173,20 @@ fn most_numbers() {
         for threshold in [1, k.div_ceil(2) as u32, k as u32] {
             assert_eq!(calls.compare(&runs, threshold), None);
         }
-        // One mark more.
-        runs[0].insert(0, 0);
         let refusal = |number, place: usize| {
             let place = place as u64;
             Some(Refusal { number, place })
         };
+        // One mark more.
+        runs[0].insert(0, 0);
         assert_eq!(calls.compare(&runs, 1), refusal(3, k));
-        // One less, and a 0 at the far end.
+        // One less, and a 0 at the far end, which is no mark after a bin.
         runs[0].drain(..2);
         runs[k - 1].push(0);
-        let is_marked_later = runs[k - 1].iter().any(|&x| x > 0);
-        let expected = is_marked_later
-            .then(|| refusal(4, MAX_NUMBERS - 1))
-            .flatten();
+        let expected = match runs[k - 1].iter().any(|&x| x > 0) {
+            true => refusal(4, MAX_NUMBERS - 1),
+            false => None,
+        };
         assert_eq!(calls.compare(&runs, 1), expected);
     }
     assert_eq!(calls.single[0].seen[3], 4);
