@@ -108,9 +108,10 @@ pub fn blocks(k: usize, count: usize) -> Input {
     Input::new((0..k).map(run), count)
 }
 
-/// Blocks of half as many numbers, each after as many zeros as it has numbers.
+/// Sparse runs of half as many numbers, each after as many zeros as it has
+/// numbers.
 pub fn half_zeros(k: usize, count: usize) -> Input {
-    blocks(k, count / 2).raised().after_zeros()
+    sparse(k, count / 2).raised().after_zeros()
 }
 
 /// Two runs: 1,024 numbers against all others, over the same range.
