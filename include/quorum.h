@@ -1,17 +1,19 @@
 /*
  * quorum.h: which bins do at least t of k runs hold?
  *
- * A bin is a number from 1 to 4294967295. A run is a rising list of numbers: bins,
- * and perhaps a 0 before them. All runs lie one after another in `numbers`;
+ * A bin is a number from 1 to 4294967295. A run is a rising list of bins, and
+ * perhaps zeros before them. All runs lie one after another in `numbers`;
  * `ends[i]` is the place after the last number of run i, so `ends_len` is the
  * number of runs. Ends are ends and not offsets from 0: runs of 3, 4 and 2 numbers
  * have ends 3, 7, 9, and not 0, 3, 7. A run may be empty. Bit i of a 64-bit mask
  * names run i, bit 0 being the lowest.
  *
- * A 0 at the start of a run is the mark of a hit that could not be mapped. It is no
- * bin: it is passed over without a probe, is never an answer, and no certificate
- * speaks of it. It is one of the `numbers`, and counts in ends, in places and
- * towards QUORUM_MAX_NUMBERS. A second 0 does not rise and is refusal 4.
+ * A 0 at the start of a run is the mark of a hit that could not be mapped, and a
+ * run may begin with any number of them: {0, 0, 5} is read as {5}, and a run of
+ * zeros alone as an empty one. They are no bins: they are passed over without a
+ * probe, are never answers, and no certificate speaks of them. They are among the
+ * `numbers`, and count in ends, in places and towards QUORUM_MAX_NUMBERS. A 0 after
+ * another number of its run does not rise and is refusal 4.
  *
  * docs/SPECIFICATION.md says whole what each call does with any input.
  *
@@ -59,7 +61,7 @@ extern "C" {
 
 /** The version. While the major number is 0, a higher minor one may change calls. */
 #define QUORUM_VERSION_MAJOR 0
-#define QUORUM_VERSION_MINOR 5
+#define QUORUM_VERSION_MINOR 6
 #define QUORUM_VERSION_PATCH 0
 
 /** The limits: runs, numbers of all runs together, the first and the last bin. */
@@ -123,8 +125,9 @@ enum {
      */
     QUORUM_BAD_ENDS = 3,
     /**
-     * A number is not above the one before it in its run. Place: its index in the
-     * numbers; from quorum_lcov_run its index in the run.
+     * A number is not above the one before it in its run, the comparison starting
+     * at the run's first number that is not 0. Place: its index in the numbers;
+     * from quorum_lcov_run its index in the run.
      */
     QUORUM_NOT_RISING = 4,
     /**
@@ -280,8 +283,9 @@ void quorum_query(const uint32_t *numbers, size_t numbers_len,
  * them that is more than 32 bits hold), and so is the sum over the questions of
  * quorum_probe_bound_chosen() for the parts of any true certificate.
  *
- * Cost: one pass over the numbers for the first checks of all questions, then for
- * each question the probes and the writing of its certificate, as quorum_query.
+ * Cost: one pass over the numbers, zeros at the start of runs among them, for the
+ * first checks of all questions, then for each question the probes and the writing
+ * of its certificate, as quorum_query.
  *
  * Example, after the one above: the bins in two of all three runs, those in both
  * of the first two, and those in the first or the last.
@@ -363,8 +367,9 @@ void quorum_check_chosen(const uint32_t *numbers, size_t numbers_len,
  *
  * `part` receives the place of the first of them and the place after the last:
  * list[part[0]] to list[part[1] - 1]. The two are equal if there are none, if
- * `first` is above `last` or if the list does not rise. A 0 at the start of the
- * list is never shown, whatever `first` is. The list may have any length.
+ * `first` is above `last` or if the list does not rise. Zeros at the start of the
+ * list, any number of them, are passed over and never shown, whatever `first` is.
+ * The list may have any length.
  *
  * Cost: one pass over the list and two searches.
  *
@@ -374,9 +379,9 @@ void quorum_check_chosen(const uint32_t *numbers, size_t numbers_len,
  *     uint64_t part[QUORUM_BETWEEN_ROW];
  *     quorum_between(list, 3, 3, 9, part);
  *     // part: 1, 3
- *     uint32_t marked[] = {0, 3, 5};
- *     quorum_between(marked, 3, 0, 3, part);
- *     // part: 1, 2
+ *     uint32_t marked[] = {0, 0, 3, 5};
+ *     quorum_between(marked, 4, 0, 3, part);
+ *     // part: 2, 3
  */
 void quorum_between(const uint32_t *list, size_t list_len, uint32_t first,
                     uint32_t last, uint64_t part[QUORUM_BETWEEN_ROW]);
@@ -387,7 +392,7 @@ void quorum_between(const uint32_t *list, size_t list_len, uint32_t first,
  * refusal 7 never occurs. A sum above QUORUM_ENOUGH_PROBES, which may not fit the
  * 32 bits of an allowance, can be cut down to that.
  *
- * The length is that of the numbers as lent, a 0 at the start among them, for the
+ * The length is that of the numbers as lent, zeros at the start among them, for the
  * ends tell no more. So the sum may be above that over the runs' bins, and is
  * never below it.
  *

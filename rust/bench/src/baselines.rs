@@ -8,7 +8,7 @@ use std::collections::binary_heap::{BinaryHeap, PeekMut};
 /// A head, its run and its place in the run.
 type Head = Reverse<(u32, u32, u32)>;
 
-/// The bins of the runs: a 0 at the start of one is passed over.
+/// The bins of the runs: zeros at the start of one are passed over.
 fn runs_of<'a>(numbers: &'a [u32], ends: &[u32]) -> Vec<&'a [u32]> {
     let runs = ends.iter().scan(0, |start, &end| {
         let run = *start..end as usize;
@@ -127,9 +127,11 @@ mod tests {
     #[test]
     fn all_give_the_counted_answers() {
         let m = u32::MAX;
-        let inputs: [(&[u32], &[u32]); 7] = [
+        let inputs: [(&[u32], &[u32]); 9] = [
             (&[], &[0]),
             (&[0, 0, 4, 0, 1], &[1, 3, 5]),
+            (&[0, 0, 0, 0, 4, 0, 0, 0, 1, 4], &[2, 5, 10]),
+            (&[0; 100], &[99, 100]),
             (&[0, m], &[2]),
             (&[2, 5, 9, 5, 7, 9, 12, 1, 9], &[3, 7, 9]),
             (&[0, m, m, 0, 1, m], &[2, 3, 3, 6]),

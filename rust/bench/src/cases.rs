@@ -1,7 +1,7 @@
 //! The cases of the tables: a shape of input, a number of runs and a
-//! threshold; or a tracefile.
+//! threshold, perhaps with zeros before each run; or a tracefile.
 
-use crate::inputs::{self, Input};
+use crate::inputs::{self, Input, NUMBERS};
 use crate::tracefiles;
 use std::fmt;
 
@@ -11,7 +11,7 @@ use std::fmt;
 pub struct Case {
     /// The name of the input's shape.
     pub shape: &'static str,
-    input: fn(usize) -> Input,
+    input: fn(usize, usize) -> Input,
     /// The number of runs.
     pub runs: usize,
     /// How many runs must hold an answer.
@@ -24,22 +24,43 @@ impl fmt::Display for Case {
     }
 }
 
-/// A shape's name, its input of so many runs, and the numbers of runs that it is
-/// tried with.
-type Shape = (&'static str, fn(usize) -> Input, &'static [usize]);
+impl Case {
+    /// The input with so many numbers.
+    pub fn input(&self, count: usize) -> Input {
+        (self.input)(self.runs, count)
+    }
+}
 
-const QUERIED: [Shape; 5] = [
+/// One line of the table about zeros: a case whose runs are timed after as many
+/// zeros as each has numbers, and without. [`Display`](fmt::Display) gives its name, as `half
+/// zeros, dense k=64 t=32`.
+#[derive(Clone, Copy)]
+pub struct HalfZeros(pub Case);
+
+impl fmt::Display for HalfZeros {
+    fn fmt(&self, f: &mut fmt::Formatter<'_>) -> fmt::Result {
+        write!(f, "half zeros, {}", self.0)
+    }
+}
+
+/// A shape's name, its input of so many runs and numbers, and the numbers of runs
+/// that it is tried with.
+type Shape = (&'static str, fn(usize, usize) -> Input, &'static [usize]);
+
+const QUERIED: [Shape; 6] = [
     ("dense", inputs::dense, &[2, 8, 64]),
     ("sparse", inputs::sparse, &[2, 8, 64]),
     ("nearly disjoint", inputs::nearly_disjoint, &[2, 8, 64]),
     ("blocks", inputs::blocks, &[2, 8, 64]),
-    ("skewed", |_| inputs::skewed(), &[2]),
+    ("skewed", inputs::skewed, &[2]),
+    ("half zeros", inputs::half_zeros, &[64]),
 ];
 
-const CHECKED: [Shape; 3] = [
+const CHECKED: [Shape; 4] = [
     ("dense", inputs::dense, &[64]),
     ("sparse", inputs::sparse, &[64]),
     ("nearly disjoint", inputs::nearly_disjoint, &[64]),
+    ("half zeros", inputs::half_zeros, &[64]),
 ];
 
 const ASKED_TOGETHER: [Shape; 4] = [
@@ -69,6 +90,11 @@ pub fn asked_together() -> Vec<Case> {
     cases(&ASKED_TOGETHER, |k| vec![k / 2])
 }
 
+/// The cases of the fourth table, in which they are timed after zeros.
+pub fn half_zeros() -> Vec<HalfZeros> {
+    asked_together().into_iter().map(HalfZeros).collect()
+}
+
 fn cases(shapes: &[Shape], thresholds: fn(usize) -> Vec<usize>) -> Vec<Case> {
     let mut cases = Vec::new();
     for &(shape, input, runs) in shapes {
@@ -88,7 +114,7 @@ fn cases(shapes: &[Shape], thresholds: fn(usize) -> Vec<usize>) -> Vec<Case> {
 /// follow one another with it.
 pub fn with_inputs(cases: &[Case]) -> impl Iterator<Item = (&[Case], Input)> {
     let groups = cases.chunk_by(|a, b| (a.shape, a.runs) == (b.shape, b.runs));
-    groups.map(|group| (group, (group[0].input)(group[0].runs)))
+    groups.map(|group| (group, group[0].input(NUMBERS)))
 }
 
 /// The cases of the tables that are measured.
@@ -100,6 +126,8 @@ pub struct Selected {
     /// Those of the third table.
     pub asked_together: Vec<Case>,
     /// Those of the fourth table.
+    pub half_zeros: Vec<HalfZeros>,
+    /// Those of the fifth table.
     pub read: Vec<tracefiles::Case>,
 }
 
@@ -111,13 +139,19 @@ pub fn select(substring: &str) -> Result<Selected, String> {
         queried: having(substring, queried()),
         checked: having(substring, checked()),
         asked_together: having(substring, asked_together()),
+        half_zeros: having(substring, half_zeros()),
         read: having(substring, tracefiles::cases()),
     };
-    if selected.queried.is_empty() && selected.read.is_empty() {
-        let names = [names(&queried()), names(&tracefiles::cases())].concat();
+    let Selected {
+        queried: first,
+        half_zeros: fourth,
+        read: fifth,
+        ..
+    } = &selected;
+    if first.is_empty() && fourth.is_empty() && fifth.is_empty() {
         return Err(format!(
             "no case has `{substring}` in its name; there are\n{}",
-            names.join("\n")
+            all_names().join("\n")
         ));
     }
     Ok(selected)
@@ -127,6 +161,12 @@ pub fn select(substring: &str) -> Result<Selected, String> {
 fn having<C: fmt::Display>(substring: &str, mut cases: Vec<C>) -> Vec<C> {
     cases.retain(|case| case.to_string().contains(substring));
     cases
+}
+
+/// The names of all cases.
+fn all_names() -> Vec<String> {
+    let others = [names(&half_zeros()), names(&tracefiles::cases())];
+    [names(&queried()), others.concat()].concat()
 }
 
 fn names<C: fmt::Display>(cases: &[C]) -> Vec<String> {
@@ -143,7 +183,8 @@ mod tests {
     fn all_cases() {
         let all = select("").unwrap();
         let counts = [&all.queried, &all.checked, &all.asked_together].map(Vec::len);
-        assert_eq!(counts, [42, 9, 4]);
+        assert_eq!(counts, [46, 12, 4]);
+        assert_eq!(all.half_zeros.len(), 4);
         assert_eq!(
             names(&all.queried)[..3],
             ["dense k=2 t=1", "dense k=2 t=2", "dense k=8 t=1"]
@@ -175,10 +216,14 @@ mod tests {
             ["dense k=64 t=1", "dense k=64 t=2", "dense k=64 t=32"]
         );
         assert_eq!(names(&some.asked_together), ["dense k=64 t=32"]);
+        assert_eq!(names(&some.half_zeros), ["half zeros, dense k=64 t=32"]);
         assert!(some.read.is_empty());
         let one = select("skewed k=2 t=2").unwrap();
         assert_eq!(names(&one.queried), ["skewed k=2 t=2"]);
         assert!(one.checked.is_empty() && one.asked_together.is_empty());
+        let zeros = select("half zeros, blocks").unwrap();
+        assert_eq!(names(&zeros.half_zeros), ["half zeros, blocks k=64 t=32"]);
+        assert!(zeros.queried.is_empty() && zeros.read.is_empty());
         let read = select("tracefile, last").unwrap();
         assert_eq!(names(&read.read), TRACEFILES[..1]);
         assert!(read.queried.is_empty() && read.checked.is_empty());
@@ -192,7 +237,11 @@ mod tests {
             lines.next(),
             Some("no case has `denser` in its name; there are")
         );
-        let all = [names(&queried()), TRACEFILES.map(str::to_string).to_vec()];
+        let all = [
+            names(&queried()),
+            names(&half_zeros()),
+            TRACEFILES.map(str::to_string).to_vec(),
+        ];
         assert!(lines.eq(all.concat()));
     }
 

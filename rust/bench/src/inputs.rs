@@ -1,8 +1,9 @@
-//! Inputs of exactly 1,048,576 numbers, equal in every run of the program.
+//! Inputs of a given number of numbers, equal in every run of the program.
 
 use reference::testing::{lay_out, Random};
 
-/// The numbers of every input.
+/// The numbers of an input, zeros included; without its zeros an input may have
+/// fewer.
 pub const NUMBERS: usize = 1_048_576;
 
 /// Runs laid one after another.
@@ -13,10 +14,28 @@ pub struct Input {
     pub ends: Vec<u32>,
 }
 
-fn input(runs: Vec<Vec<u32>>) -> Input {
-    let (numbers, ends) = lay_out(&runs);
-    assert_eq!(numbers.len(), NUMBERS);
-    Input { numbers, ends }
+impl Input {
+    fn new(runs: impl IntoIterator<Item = Vec<u32>>, count: usize) -> Self {
+        let (numbers, ends) = lay_out(&runs.into_iter().collect::<Vec<_>>());
+        assert_eq!(numbers.len(), count);
+        Input { numbers, ends }
+    }
+
+    /// The same runs with every number one higher, so that none begins with a 0.
+    pub fn raised(mut self) -> Self {
+        self.numbers.iter_mut().for_each(|x| *x += 1);
+        self
+    }
+
+    /// The same runs, each after as many zeros as it has numbers.
+    pub fn after_zeros(&self) -> Self {
+        let starts = [0].into_iter().chain(self.ends.iter().copied());
+        let runs = starts.zip(&self.ends).map(|(start, &end)| {
+            let run = &self.numbers[start as usize..end as usize];
+            [&vec![0; run.len()], run].concat()
+        });
+        Input::new(runs, 2 * self.numbers.len())
+    }
 }
 
 /// `count` numbers from `start` on, each above the one before by `step`.
@@ -31,7 +50,7 @@ fn rising(start: u32, count: usize, mut step: impl FnMut() -> usize) -> Vec<u32>
 }
 
 /// Each run holds each number of one range in nine cases out of ten.
-pub fn dense(k: usize) -> Input {
+pub fn dense(k: usize, count: usize) -> Input {
     let mut random = Random(1);
     let mut step = || {
         let mut step = 1;
@@ -40,27 +59,27 @@ pub fn dense(k: usize) -> Input {
         }
         step
     };
-    let run = |_| rising(0, NUMBERS / k, &mut step);
-    input((0..k).map(run).collect())
+    let run = |_| rising(0, count / k, &mut step);
+    Input::new((0..k).map(run), count)
 }
 
 /// Random numbers from a range 64 times as wide as there are numbers.
-pub fn sparse(k: usize) -> Input {
+pub fn sparse(k: usize, count: usize) -> Input {
     let mut random = Random(2);
     let widest = 2 * 64 * k - 1;
     let run = |_| {
         let start = random.below(widest) as u32;
-        rising(start, NUMBERS / k, || 1 + random.below(widest))
+        rising(start, count / k, || 1 + random.below(widest))
     };
-    input((0..k).map(run).collect())
+    Input::new((0..k).map(run), count)
 }
 
 /// Each number of one range is in one run, or in two in one case out of
 /// eight.
-pub fn nearly_disjoint(k: usize) -> Input {
+pub fn nearly_disjoint(k: usize, count: usize) -> Input {
     let mut random = Random(3);
     let mut runs = vec![Vec::new(); k];
-    let mut left = NUMBERS;
+    let mut left = count;
     for x in 0.. {
         if left == 0 {
             break;
@@ -74,27 +93,54 @@ pub fn nearly_disjoint(k: usize) -> Input {
             left -= 1;
         }
     }
-    input(runs)
+    Input::new(runs, count)
 }
 
 /// Each run has a range of its own, the first run the highest, so that the
 /// row of numbers is not in order by itself.
-pub fn blocks(k: usize) -> Input {
+pub fn blocks(k: usize, count: usize) -> Input {
     let mut random = Random(4);
-    let length = NUMBERS / k;
+    let length = count / k;
     let run = |i| {
         let start = (k - 1 - i) * 4 * length;
         rising(start as u32, length, || 1 + random.below(3))
     };
-    input((0..k).map(run).collect())
+    Input::new((0..k).map(run), count)
 }
 
-/// 1,024 numbers against all others, over the same range.
-pub fn skewed() -> Input {
+/// Sparse runs of half as many numbers, each after as many zeros as it has
+/// numbers.
+pub fn half_zeros(k: usize, count: usize) -> Input {
+    sparse(k, count / 2).raised().after_zeros()
+}
+
+/// Two runs: 1,024 numbers against all others, over the same range.
+pub fn skewed(_: usize, count: usize) -> Input {
     let mut random = Random(5);
     let few = 1_024;
-    let long = rising(0, NUMBERS - few, || 1 + random.below(3));
-    let widest = 2 * (2 * NUMBERS / few) - 1;
+    let long = rising(0, count - few, || 1 + random.below(3));
+    let widest = 2 * (2 * count / few) - 1;
     let short = rising(0, few, || 1 + random.below(widest));
-    input(vec![short, long])
+    Input::new([short, long], count)
+}
+
+#[cfg(test)]
+mod tests {
+    use super::*;
+    use reference::split_runs;
+
+    /// The bins are the same, and as many zeros are before them in each run.
+    #[test]
+    fn after_zeros() {
+        for shape in [dense, sparse, nearly_disjoint, blocks] {
+            let bins = shape(4, 1_000).raised();
+            assert!(!bins.numbers.contains(&0));
+            let zeros = bins.after_zeros();
+            let doubled: Vec<u32> = bins.ends.iter().map(|end| 2 * end).collect();
+            assert_eq!(zeros.ends, doubled);
+            let runs = |input: &Input| split_runs(&input.numbers, &input.ends).concat();
+            assert_eq!(runs(&zeros), runs(&bins));
+            assert_eq!(runs(&bins), bins.numbers);
+        }
+    }
 }

@@ -7,7 +7,7 @@ use quorum::{enough_answers, enough_bytes, enough_results, Counts};
 use std::time::Duration;
 
 /// The questions of a call, each about all runs and with the same threshold.
-const QUESTIONS: usize = 20;
+pub const QUESTIONS: usize = 20;
 
 /// Prints the table of the cases.
 pub fn report(cases: &[Case], repetitions: usize) {
@@ -18,7 +18,7 @@ pub fn report(cases: &[Case], repetitions: usize) {
     for (group, input) in cases::with_inputs(cases) {
         for case in group {
             let (k, t) = (case.runs, case.threshold);
-            let (parts, times) = Rows::new(&input, t).measure(&input, t, repetitions);
+            let (parts, times) = measure(&input, t, repetitions);
             let [one, calls, same] = times.map(|time| time.as_secs_f64() * 1e3);
             println!(
                 "{:<16} {k:>3} {t:>3} {QUESTIONS:>9} {parts:>9} {one:>10.2} {calls:>10.2} {:>9.3} {:>9.2}",
@@ -30,21 +30,41 @@ pub fn report(cases: &[Case], repetitions: usize) {
     }
 }
 
-/// What one way writes to.
+/// Runs all three ways in turn, `repetitions` times, and checks that they agree.
+/// Returns the parts of all questions and the medians.
+fn measure(input: &Input, threshold: usize, repetitions: usize) -> (usize, [Duration; 3]) {
+    let [mut one, mut calls, mut same] = Row::equal(input, threshold);
+    let mut times: [Vec<Duration>; 3] = Default::default();
+    let mut parts = 0;
+    for _ in 0..repetitions {
+        let (time, counts) = one.ask(input, threshold);
+        times[0].push(time);
+        parts = counts.parts;
+
+        let (time, sums) = timed(&input.numbers, || calls.ask_each(input, threshold));
+        assert_eq!(sums, counts);
+        times[1].push(time);
+
+        let (time, result) = same.ask_same(input, threshold);
+        assert_eq!(result, counts.into());
+        times[2].push(time);
+    }
+    assert!(one == calls && one == same);
+    (parts, times.map(median))
+}
+
+/// What one way writes to, exactly as much as it needs.
 #[derive(Clone, PartialEq)]
-struct Row {
+pub struct Row {
     answers: Vec<u32>,
     certificate: Vec<u8>,
     results: Vec<u64>,
 }
 
-/// What the three ways write to, exactly as much as they need.
-struct Rows([Row; 3]);
-
-impl Rows {
-    /// Allocates all and writes to each place, so that no repetition meets a
-    /// page for the first time.
-    fn new(Input { numbers, ends }: &Input, threshold: usize) -> Self {
+impl Row {
+    /// Allocates one for each way and writes to each place, so that no repetition
+    /// meets a page for the first time.
+    pub fn equal<const N: usize>(Input { numbers, ends }: &Input, threshold: usize) -> [Self; N] {
         let mut answers = vec![1; enough_answers(numbers.len())];
         let mut certificate = vec![1; enough_bytes(numbers.len())];
         let counts = quorum::query(
@@ -61,72 +81,57 @@ impl Rows {
             certificate: vec![1; QUESTIONS * counts.bytes],
             results: vec![1; enough_results(QUESTIONS)],
         };
-        Rows(std::array::from_fn(|_| row.clone()))
+        std::array::from_fn(|_| row.clone())
     }
 
-    /// Runs all three in turn, `repetitions` times, and checks that they agree.
-    /// Returns the parts of all questions and the medians.
-    fn measure(
+    /// Times one call for all questions.
+    pub fn ask(&mut self, Input { numbers, ends }: &Input, threshold: usize) -> (Duration, Counts) {
+        let masks = [all_runs(ends); QUESTIONS];
+        let thresholds = [threshold as u32; QUESTIONS];
+        let (time, result) = timed(numbers, || {
+            quorum::query_many(
+                numbers,
+                ends,
+                &masks,
+                &thresholds,
+                u32::MAX,
+                &mut self.answers,
+                &mut self.certificate,
+                &mut self.results,
+            )
+        });
+        (time, result.expect("no limit is reached"))
+    }
+
+    /// Times the same in the library's own way in Rust.
+    pub fn ask_same(
         &mut self,
         Input { numbers, ends }: &Input,
         threshold: usize,
-        repetitions: usize,
-    ) -> (usize, [Duration; 3]) {
-        let Rows([one, calls, same]) = self;
-        let t = threshold as u32;
-        let all = u64::MAX >> (64 - ends.len());
-        let (masks, thresholds) = ([all; QUESTIONS], [t; QUESTIONS]);
-        let questions = [(all, threshold); QUESTIONS];
-        let mut times: [Vec<Duration>; 3] = Default::default();
-        let mut parts = 0;
-        for _ in 0..repetitions {
-            let (time, result) = timed(numbers, || {
-                quorum::query_many(
-                    numbers,
-                    ends,
-                    &masks,
-                    &thresholds,
-                    u32::MAX,
-                    &mut one.answers,
-                    &mut one.certificate,
-                    &mut one.results,
-                )
-            });
-            let counts = result.expect("no limit is reached");
-            times[0].push(time);
-            parts = counts.parts;
-
-            let (time, sums) = timed(numbers, || calls.ask_each(numbers, ends, t));
-            assert_eq!(sums, counts);
-            times[1].push(time);
-
-            let (time, result) = timed(numbers, || {
-                ordered::query_many(
-                    numbers,
-                    ends,
-                    &questions,
-                    &mut same.answers,
-                    &mut same.certificate,
-                    &mut same.results,
-                )
-            });
-            assert_eq!(result, Some(counts.into()));
-            times[2].push(time);
-        }
-        assert!(one == calls && one == same);
-        (parts, times.map(median))
+    ) -> (Duration, ordered::Counts) {
+        let questions = [(all_runs(ends), threshold); QUESTIONS];
+        let (time, result) = timed(numbers, || {
+            ordered::query_many(
+                numbers,
+                ends,
+                &questions,
+                &mut self.answers,
+                &mut self.certificate,
+                &mut self.results,
+            )
+        });
+        (time, result.expect("the runs rise"))
     }
-}
 
-impl Row {
     /// Makes one call for each question, which writes where the one before it
     /// ended. Returns the sums of what they return.
-    fn ask_each(&mut self, numbers: &[u32], ends: &[u32], threshold: u32) -> Counts {
+    fn ask_each(&mut self, Input { numbers, ends }: &Input, threshold: usize) -> Counts {
         let mut sums = Counts::default();
         for reached in self.results.chunks_exact_mut(2) {
             let answers = &mut self.answers[sums.answers..];
             let certificate = &mut self.certificate[sums.bytes..];
-            let result = quorum::query(numbers, ends, threshold, u32::MAX, answers, certificate);
+            let t = threshold as u32;
+            let result = quorum::query(numbers, ends, t, u32::MAX, answers, certificate);
             let counts = result.expect("no limit is reached");
             sums.answers += counts.answers;
             sums.parts += counts.parts;
@@ -137,4 +142,9 @@ impl Row {
         }
         sums
     }
+}
+
+/// The mask of all runs.
+fn all_runs(ends: &[u32]) -> u64 {
+    u64::MAX >> (64 - ends.len())
 }

@@ -6,20 +6,22 @@ pub const USAGE: &str = "usage: bench [--only SUBSTRING] [--reps N] [--help]";
 /// What `--help` prints after the usage.
 pub const HELP: &str = "
 Times the library on 1,048,576 numbers beside other ways to the answers, checks
-of certificates beside queries, many questions in one call beside as many calls,
-and the reading of tracefiles of 100,000,000 bytes. Standard output has the four
-tables.
+of certificates beside queries, many questions in one call beside as many calls
+and with zeros before the bins beside the bins alone, and the reading of
+tracefiles of 100,000,000 bytes. Standard output has the five tables.
 
-  --only SUBSTRING  measure the cases whose name, as `dense k=8 t=2` or
-                    `tracefile, one section`, has this
+  --only SUBSTRING  measure the cases whose name, as `dense k=8 t=2`,
+                    `half zeros, dense k=64 t=32` or `tracefile, one section`,
+                    has this
   --reps N          repetitions, 1 or more, of which the median counts; 9 if not given
   --help            print this
 
-Columns of the first three tables:
+Columns of the first four tables:
   case            shape of the input
   k               number of runs
   t               threshold
-  parts           parts of the certificate; in the third table of all certificates
+  parts           parts of the certificate; of all certificates where there are many
+                  questions
 
 Columns of the first table, queries:
   ns/number       time of the library for a number, in nanoseconds
@@ -44,7 +46,18 @@ Columns of the third table, questions about all runs with the same threshold:
   one/calls       time of the one call divided by that of the calls
   one/same        the same for the library's own way in Rust, all questions together
 
-Columns of the fourth table, the last section of a tracefile read as a run:
+Columns of the fourth table, such questions about half as many bins, after as many
+zeros in each run and without them:
+  zeros ms        time of the call with the zeros, in milliseconds
+  bins ms         time of the call without them, in milliseconds
+  pass ms         time of a call with no question with the zeros less that without
+                  them: the one pass over the zeros, in milliseconds
+  zeros/bins      time of the call with the zeros divided by that without
+  less pass       the same once the one pass is taken off the call with the zeros
+  zeros/same      time of the call with the zeros divided by that of the library's own
+                  way in Rust
+
+Columns of the fifth table, the last section of a tracefile read as a run:
   case            which tracefile: one of many sections, or of one with all its records
   sections        number of sections
   numbers         numbers of the run

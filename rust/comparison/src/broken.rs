@@ -1,6 +1,6 @@
 //! Rows and thresholds that the first checks refuse.
 
-use reference::testing::{Random, M};
+use reference::testing::{mark_later, Random, M};
 
 /// Returns a threshold: mostly good, at times 0, one above `k` or far too
 /// large.
@@ -14,7 +14,7 @@ pub fn any_threshold(random: &mut Random, k: usize) -> u32 {
 
 /// Breaks the rows in one way. They may still pass the first checks.
 pub fn break_rows(random: &mut Random, numbers: &mut Vec<u32>, ends: &mut Vec<u32>) {
-    match random.below(11) {
+    match random.below(12) {
         // An end that falls.
         0 if ends.len() > 1 => {
             let i = random.from_to(1, ends.len() - 1);
@@ -52,12 +52,12 @@ pub fn break_rows(random: &mut Random, numbers: &mut Vec<u32>, ends: &mut Vec<u3
             let i = random.below(numbers.len());
             numbers[i] = random.pick(&[0, M, numbers[i].wrapping_sub(1)]);
         }
-        // Two marks at the start of a run.
-        9 if !ends.is_empty() => {
+        // A 0 after a bin of its run.
+        9 | 10 if !ends.is_empty() => {
             let run = random.below(ends.len());
             let start = run.checked_sub(1).map_or(0, |before| ends[before] as usize);
-            if let Some(front) = numbers.get_mut(start..start + 2) {
-                front.fill(0);
+            if let Some(run) = numbers.get_mut(start..ends[run] as usize) {
+                mark_later(random, run);
             }
         }
         // One run more or less.

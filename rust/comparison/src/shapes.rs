@@ -31,7 +31,7 @@ pub const SHAPES: [Shape; 6] = [
 
 /// Returns `k` runs of up to about `length` numbers each, of any shape, some
 /// of them with 4294967295, some empty. In a third of all cases runs begin with
-/// 0, the unmapped mark.
+/// unmapped marks, which are zeros: one, two or many.
 pub fn any_runs(random: &mut Random, k: usize, length: usize) -> Vec<Vec<u32>> {
     let shape = random.pick(&SHAPES);
     let mut runs = placed_runs(random, shape, k, length);
@@ -45,7 +45,7 @@ pub fn any_runs(random: &mut Random, k: usize, length: usize) -> Vec<Vec<u32>> {
 }
 
 /// Returns `k` runs of a shape, of up to about `length` numbers each. In a third
-/// of all cases runs begin with 0.
+/// of all cases runs begin with unmapped marks.
 pub fn shaped_runs(random: &mut Random, shape: Shape, k: usize, length: usize) -> Vec<Vec<u32>> {
     let mut runs = placed_runs(random, shape, k, length);
     mark_some(random, &mut runs);

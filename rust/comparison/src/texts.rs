@@ -3,8 +3,9 @@
 
 use crate::broken::any_threshold;
 use crate::shapes::any_runs;
-use reference::testing::{lay_out, Random, M};
-use reference::trace;
+use reference::testing::{any_marks, lay_out, mark_later, Random, M};
+use reference::{bins, leading_zeros, trace};
+use std::iter;
 
 /// The most bytes that the program accepts.
 pub const MOST_BYTES: usize = 65_536;
@@ -144,19 +145,19 @@ fn leave_out_from(runs: &mut [Vec<u32>], most: usize) {
 }
 
 /// Has a number stand where it is not above the one before it, if there are
-/// two in a run.
+/// two bins in a run.
 fn stop_rising(random: &mut Random, runs: &mut [Vec<u32>]) {
-    let long: Vec<usize> = (0..runs.len()).filter(|&i| runs[i].len() > 1).collect();
+    let is_long = |&i: &usize| bins(&runs[i]).len() > 1;
+    let long: Vec<usize> = (0..runs.len()).filter(is_long).collect();
     if long.is_empty() {
         return;
     }
     let run = &mut runs[random.pick(&long)];
-    let i = random.from_to(1, run.len() - 1);
+    let i = random.from_to(leading_zeros(run) + 1, run.len() - 1);
     match random.below(4) {
         0 => run[i] = run[i - 1],
         1 => run.swap(i - 1, i),
-        2 => run[..2].fill(0),
-        _ => run[i] = 0,
+        _ => drop(mark_later(random, run)),
     }
 }
 
@@ -217,7 +218,8 @@ pub fn near_a_limit(random: &mut Random) -> Text {
     let mut text = match random.below(4) {
         0 => {
             let k = random.from_to(MOST_RUNS - 1, MOST_RUNS + 2);
-            let runs = any_runs(random, k, MOST_NUMBERS / (2 * k));
+            let mut runs = any_runs(random, k, MOST_NUMBERS / (2 * k));
+            leave_out_from(&mut runs, MOST_NUMBERS);
             Text::of(any_threshold(random, k), M, &runs)
         }
         1 | 2 => {
@@ -237,15 +239,20 @@ pub fn near_a_limit(random: &mut Random) -> Text {
 }
 
 /// Some runs with `count` numbers in all, some of them empty. In a third of all
-/// cases they begin with 0.
+/// cases the others begin with unmapped marks.
 fn cut_up(random: &mut Random, count: usize) -> Vec<Vec<u32>> {
     let k = random.from_to(1, MOST_RUNS);
     let mut cuts: Vec<usize> = (1..k).map(|_| random.below(count + 1)).collect();
     cuts.extend([0, count]);
     cuts.sort_unstable();
-    let (first, step) = (random.pick(&[0, 1, 2]), random.pick(&[1, 3, 4_000_000]));
-    let number = |i: usize| first + i as u32 * step;
-    let run = |cut: &[usize]| (0..cut[1] - cut[0]).map(number).collect();
+    let (first, step) = (random.pick(&[1, 2]), random.pick(&[1, 3, 4_000_000]));
+    let is_marked = random.one_in(3);
+    let run = |cut: &[usize]| {
+        let marks = if is_marked { any_marks(random) } else { 0 };
+        let bins = (0..).map(|i| first + i * step);
+        let numbers = iter::repeat_n(0, marks).chain(bins);
+        numbers.take(cut[1] - cut[0]).collect()
+    };
     cuts.windows(2).map(run).collect()
 }
 

@@ -17,7 +17,7 @@ use reference::{
 struct Sums {
     /// Over their bins.
     sum: u64,
-    /// Over their numbers as lent, a 0 included, which is all that the ends tell.
+    /// Over their numbers as lent, marks included, which is all that the ends tell.
     as_lent: u64,
 }
 

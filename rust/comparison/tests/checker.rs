@@ -7,14 +7,24 @@ use comparison::seeds;
 use comparison::shapes::{any_runs, shaped_runs, Shape, SHAPES};
 use comparison::verdicts::{self, walks_own, Seen};
 use quorum::Refusal;
-use reference::testing::{checked_instances, gap, hit, lay_out, slices, Random, M, THREE_RUNS};
+use reference::testing::{
+    checked_instances, gap, hit, lay_out, marked_three_runs, slices, Random, M, THREE_RUNS,
+};
 use reference::{all_runs, encode, trace};
 
 /// The instances of docs/SPECIFICATION.md.
 #[test]
 fn every_instance() {
-    let (numbers, ends) = lay_out(&THREE_RUNS);
-    let runs = slices(&THREE_RUNS);
+    every_instance_for(&THREE_RUNS);
+    for runs in marked_three_runs() {
+        every_instance_for(&runs);
+    }
+}
+
+/// For the three runs, as they are or after marks.
+fn every_instance_for<R: AsRef<[u32]>>(runs: &[R]) {
+    let (numbers, ends) = lay_out(runs);
+    let runs = slices(runs);
     let task = Task::of_all(&runs, 2);
     let mut seen = Seen::default();
     for (bytes, expected) in checked_instances() {
@@ -166,6 +176,8 @@ fn instances() {
     let refusal = |number, place| Err(Refusal { number, place });
     assert_eq!(quorum::check(&[7], &[1], 1, &[]), refusal(9, 0));
     assert_eq!(quorum::check(&[3, 3], &[2], 1, &[]), refusal(4, 1));
+    assert_eq!(quorum::check(&[0, 0, 5, 0], &[4], 1, &[]), refusal(4, 3));
+    assert_eq!(quorum::check(&[0, 0, 5], &[3], 1, &[]), refusal(9, 0));
     assert_eq!(quorum::check(&[7; 65], &[0; 65], 1, &[]), refusal(1, 65));
     assert_eq!(quorum::check(&[7], &[1], 2, &[]), refusal(2, 2));
 }

@@ -9,26 +9,32 @@ use comparison::seeds;
 use comparison::shapes::any_runs;
 use comparison::verdicts::{self, walks_own, Seen};
 use reference::testing::{
-    chosen_instances, gap, hit, lay_out, slices, Random, FIRST_TWO_PARTS, M, THREE_RUNS,
+    chosen_instances, gap, hit, lay_out, marked_three_runs, slices, Random, FIRST_TWO_PARTS, M,
+    THREE_RUNS,
 };
 use reference::{all_runs, encode, trace_chosen};
 
-fn three_runs(rows: &(Vec<u32>, Vec<u32>), threshold: u32) -> Question<'_> {
-    Question {
-        numbers: &rows.0,
-        ends: &rows.1,
-        threshold,
+#[test]
+fn every_instance() {
+    every_instance_for(&THREE_RUNS);
+    for runs in marked_three_runs() {
+        every_instance_for(&runs);
     }
 }
 
-#[test]
-fn every_instance() {
-    let rows = lay_out(&THREE_RUNS);
+/// For the three runs, as they are or after marks.
+fn every_instance_for<R: AsRef<[u32]>>(runs: &[R]) {
+    let (numbers, ends) = lay_out(runs);
     let mut seen = Seen::default();
     for (mask, threshold, bytes, expected) in chosen_instances() {
-        let verdict = reference::check_chosen(&rows.0, &rows.1, mask, threshold, &bytes);
+        let verdict = reference::check_chosen(&numbers, &ends, mask, threshold, &bytes);
         assert_eq!(verdict, expected);
-        seen.compare_chosen(0, three_runs(&rows, threshold), mask, &bytes);
+        let question = Question {
+            numbers: &numbers,
+            ends: &ends,
+            threshold,
+        };
+        seen.compare_chosen(0, question, mask, &bytes);
     }
     seen.met(&[0, 2, 9, 10, 11, 13], 1);
 }

@@ -4,7 +4,7 @@
 use comparison::printed::{front, Comparer};
 use comparison::program;
 use comparison::seeds;
-use comparison::texts::{break_bytes, near_a_limit, short_bytes, Text, MOST_BYTES};
+use comparison::texts::{break_bytes, near_a_limit, short_bytes, Text, MOST_BYTES, MOST_NUMBERS};
 use reference::testing::{instances, Random, M};
 use std::fs;
 
@@ -188,6 +188,11 @@ fn lines_at_the_edges() {
         "5 6",
         "6 5",
         "5 5",
+        "0 0",
+        "0 00 5",
+        "5 0",
+        "0 0 5 0",
+        "0 0 5 5",
         "4294967295",
         "4294967296",
         "04294967296",
@@ -211,6 +216,24 @@ fn lines_at_the_edges() {
     let most = format!("{M} {M}\n{M}\n");
     comparer.compare("the largest numbers", most.as_bytes());
     comparer.met(&[(0, 20, 1), (1, 5, 1), (2, 10, 4), (4, 2, 1), (12, 300, 2)]);
+}
+
+/// As many unmapped marks as there may be numbers, and one more: alone, with a
+/// bin after them, and in a run before one of a bin.
+#[test]
+fn most_marks() {
+    let mut comparer = Comparer::of_hits();
+    for marks in MOST_NUMBERS - 2..=MOST_NUMBERS + 1 {
+        let zeros = vec![0; marks];
+        let bin = vec![5];
+        let two_runs = [zeros.clone(), bin];
+        let later = [&zeros[..marks / 2], &[5], &zeros[marks / 2..]].concat();
+        for runs in [&two_runs[..1], &[two_runs.concat()], &two_runs, &[later]] {
+            let text = Text::of(1, 0, runs);
+            comparer.compare(&format!("{marks} marks"), &text.bytes());
+        }
+    }
+    comparer.met(&[(0, 7, 1), (4, 2, 1), (12, 7, 2)]);
 }
 
 /// An input that reaches the program bit by bit is read to its end.

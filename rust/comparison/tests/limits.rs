@@ -7,8 +7,8 @@ use comparison::shapes::{any_runs, shaped_runs, SHAPES};
 use quorum::{
     enough_answers, enough_bytes, Counts, Refusal, Stopped, ENOUGH_PROBES, MAX_NUMBERS, MAX_RUNS,
 };
-use reference::digits;
 use reference::testing::{lay_out, Random, THREE_RUNS};
+use reference::{bins, digits};
 
 /// The limits with one less of each that is above 0, and the refusal that is
 /// due then.
@@ -109,10 +109,11 @@ fn three_runs() {
 }
 
 /// The bounds of the documentation on what a query of these runs needs: the sum
-/// of 2 × n × b over the runs, and the same of all numbers.
+/// of 2 × n × b over the runs, n being the bins of the run, and the same of all
+/// numbers.
 fn enough_probes(runs: &[Vec<u32>]) -> [u64; 2] {
     let enough = |n: usize| 2 * n as u64 * u64::from(digits(n as u64));
-    let each = runs.iter().map(|run| enough(run.len())).sum();
+    let each = runs.iter().map(|run| enough(bins(run).len())).sum();
     [each, enough(runs.iter().map(Vec::len).sum())]
 }
 
@@ -165,7 +166,7 @@ fn always_enough_for_most_numbers() {
             within_enough(&mut comparer, seed, &runs, threshold);
         }
     }
-    let most = [(0..MAX_NUMBERS as u32).collect()];
+    let most = [(1..=MAX_NUMBERS as u32).collect()];
     assert_eq!(enough_probes(&most), [ENOUGH_PROBES.into(); 2]);
     within_enough(&mut comparer, 0, &most, 1);
 }

@@ -164,6 +164,9 @@ fn noise() {
             numbers.sort_unstable();
             numbers.dedup();
         }
+        if random.one_in(4) {
+            numbers.splice(0..0, vec![0; random.from_to(1, 4)]);
+        }
         let limit = numbers.len() + random.pick(&[1, 1, 2]);
         let mut ends: Vec<u32> = (0..random.below(4))
             .map(|_| random.below(limit) as u32)

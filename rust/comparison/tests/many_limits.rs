@@ -42,8 +42,8 @@ fn every_limit() {
     comparer.met(&[0, 5, 6, 7], 500);
 }
 
-/// All runs over the mark, the first bin and the last two, up to three runs,
-/// with every choice of them and every threshold in one call.
+/// All runs over the first bin and the last two, each after up to two marks, up
+/// to three runs, with every choice of them and every threshold in one call.
 #[test]
 fn all_small_inputs() {
     let mut comparer = Comparer::new();

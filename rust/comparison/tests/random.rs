@@ -112,7 +112,8 @@ fn every_limit() {
     met(&comparer, &[0, 5, 6, 7], 10);
 }
 
-/// All runs over the mark, the first bin and the last two, up to three runs.
+/// All runs over the first bin and the last two, each after up to two marks, up
+/// to three runs.
 #[test]
 fn all_small_inputs() {
     let mut comparer = Comparer::new();
@@ -169,7 +170,10 @@ fn noise() {
             0 => random.word(),
             n => n as u32 / 2,
         };
-        let numbers: Vec<u32> = (0..random.below(7)).map(|_| small(&mut random)).collect();
+        let mut numbers: Vec<u32> = (0..random.below(7)).map(|_| small(&mut random)).collect();
+        if random.one_in(4) {
+            numbers.splice(0..0, vec![0; random.from_to(1, 4)]);
+        }
         let mut ends: Vec<u32> = (0..random.below(4)).map(|_| small(&mut random)).collect();
         if random.one_in(2) {
             ends.sort_unstable();

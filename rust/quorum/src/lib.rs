@@ -15,14 +15,16 @@
 //! # Terms
 //!
 //! A *bin* is a number from [`FIRST_BIN`], which is 1, to [`LAST_BIN`], which is
-//! 4294967295. A *run* is a rising list of numbers, each above the one before it:
-//! bins, and perhaps a 0 before them. A run may be empty. There are 1 to
-//! [`MAX_RUNS`] runs, counted from 0.
+//! 4294967295. A *run* is a rising list of bins, each above the one before it, and
+//! perhaps zeros before them. A run may be empty. There are 1 to [`MAX_RUNS`] runs,
+//! counted from 0.
 //!
-//! A 0 at the start of a run is the mark of a hit that could not be mapped. It is no
-//! bin: it is passed over without a probe, is never an answer, and no certificate
-//! speaks of it. It is one of the `numbers`, and counts in ends, in places and
-//! towards [`MAX_NUMBERS`]. A second 0 does not rise and is refused.
+//! A 0 at the start of a run is the mark of a hit that could not be mapped, and a
+//! run may begin with any number of them: {0, 0, 5} is read as {5}, and a run of
+//! zeros alone as an empty one. They are no bins: they are passed over without a
+//! probe, are never answers, and no certificate speaks of them. They are among the
+//! `numbers`, and count in ends, in places and towards [`MAX_NUMBERS`]. A 0 after
+//! another number of its run does not rise and is refused.
 //!
 //! All runs lie one after another in `numbers`, at most [`MAX_NUMBERS`] of them.
 //! The *end* of a run, `ends[i]`, is the place in `numbers` after its last
@@ -239,9 +241,15 @@ pub struct Checked {
 /// assert_eq!(stopped.refusal.number, Refusal::ANSWERS_FULL);
 /// assert_eq!((stopped.counts.answers, stopped.counts.parts), (1, 3));
 ///
-/// // {0, 7, 9} and {0, 7} are the same runs, each after the unmapped mark.
-/// let counts = query(&[0, 7, 9, 0, 7], &[3, 5], 2, 0, &mut answers, &mut certificate)?;
+/// // {0, 0, 7, 9} and {0, 7} are the same runs after unmapped marks.
+/// let numbers = [0, 0, 7, 9, 0, 7];
+/// let counts = query(&numbers, &[4, 6], 2, 0, &mut answers, &mut certificate)?;
 /// assert_eq!((counts.answers, counts.parts), (1, 3));
+///
+/// // {7, 0}: a 0 after another number is no mark.
+/// let refused = query(&[7, 0], &[2], 1, 0, &mut answers, &mut certificate);
+/// let refusal = Refusal { number: Refusal::NOT_RISING, place: 1 };
+/// assert_eq!(refused.unwrap_err().refusal, refusal);
 /// # Ok::<(), quorum::Stopped>(())
 /// ```
 pub fn query(
@@ -333,8 +341,9 @@ fn checked(row: [u64; 4]) -> Result<Checked, Refusal> {
 }
 
 /// Returns the part of `list` that has its bins from `first` to `last`, both
-/// included. It is empty if `first` is above `last` or the list does not rise. A
-/// 0 at the start of the list is never shown, whatever `first` is.
+/// included. It is empty if `first` is above `last` or the list does not rise.
+/// Zeros at the start of the list, any number of them, are passed over and never
+/// shown, whatever `first` is.
 ///
 /// # Cost
 ///
@@ -348,8 +357,9 @@ fn checked(row: [u64; 4]) -> Result<Checked, Refusal> {
 /// assert_eq!(between(&[2, 5, 9], 3, 9), [5, 9]);
 /// assert_eq!(between(&[2, 5, 9], 6, 8), []);
 /// assert_eq!(between(&[9, 5, 2], 3, 9), []);
-/// assert_eq!(between(&[0, 3, 5], 0, 3), [3]);
-/// assert_eq!(between(&[0, 3, 5], 0, 0), []);
+/// assert_eq!(between(&[0, 0, 3, 5], 0, 3), [3]);
+/// assert_eq!(between(&[0, 0, 3, 5], 0, 0), []);
+/// assert_eq!(between(&[5, 0], 0, 9), []);
 /// ```
 #[must_use]
 pub fn between(list: &[u32], first: u32, last: u32) -> &[u32] {
@@ -363,7 +373,7 @@ pub fn between(list: &[u32], first: u32, last: u32) -> &[u32] {
 /// run's length, an empty run having 0 digits. If a true certificate has so many
 /// parts, an allowance of this many probes is enough.
 ///
-/// The length is that of the numbers as lent, a 0 at the start among them, for
+/// The length is that of the numbers as lent, zeros at the start among them, for
 /// the ends tell no more. So the sum may be above that over the runs' bins, and is
 /// never below it.
 ///

@@ -16,8 +16,8 @@ pub const MAX_RUNS: usize = 64;
 /// ```
 pub const MAX_NUMBERS: usize = 1_048_576;
 
-/// The first bin. 0 is none: at the start of a run it marks a hit that could not
-/// be mapped, and elsewhere it is refused.
+/// The first bin. 0 is none: at the start of a run zeros mark hits that could not
+/// be mapped, and elsewhere a 0 is refused.
 ///
 /// ```
 /// assert_eq!(quorum::FIRST_BIN, 1);

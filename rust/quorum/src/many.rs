@@ -50,10 +50,11 @@ use std::fmt;
 ///
 /// # Cost
 ///
-/// One pass over `numbers` for the first checks of all questions, where a
-/// [`query()`](crate::query()) for each makes one for each. Then for each
-/// question, in a chosen run whose number of bins has b binary digits, at most
-/// 2 × d × b probes, d being the parts of any true certificate of the chosen runs.
+/// One pass over `numbers`, zeros at the start of runs among them, for the first
+/// checks of all questions, where a [`query()`](crate::query()) for each makes one
+/// for each. Then for each question, in a chosen run whose number of bins has b
+/// binary digits, at most 2 × d × b probes, d being the parts of any true
+/// certificate of the chosen runs.
 ///
 /// # Example
 ///

@@ -75,9 +75,10 @@ impl Refusal {
     /// only the latter.
     pub const BAD_ENDS: u64 = 3;
 
-    /// A number is not above the one before it in its run, a second 0 too. The
-    /// place is its index in the numbers; from [`lcov_run()`](crate::lcov_run()) it
-    /// is its index in the run.
+    /// A number is not above the one before it in its run, the comparison
+    /// starting at the run's first number that is not 0. So zeros at its start are
+    /// passed over, and a later 0 is such a number. The place is its index in the
+    /// numbers; from [`lcov_run()`](crate::lcov_run()) it is its index in the run.
     pub const NOT_RISING: u64 = 4;
 
     /// One more answer is due and the answer buffer is full. The place is the

@@ -16,8 +16,8 @@ pub fn digits(n: u64) -> u32 {
 /// many probes is enough. Refusals 1 and 3; of the numbers' length only its
 /// limit is known here.
 ///
-/// The ends do not tell whether a run begins with a 0, so the length counts the
-/// numbers as lent: the sum is never below that over the runs' bins.
+/// The ends do not tell how many zeros a run begins with, so the length counts
+/// the numbers as lent: the sum is never below that over the runs' bins.
 pub fn probe_bound(ends: &[u32], parts: u32) -> Result<u64, Refusal> {
     probe_bound_chosen(ends, all_runs(ends.len()), parts)
 }

@@ -1,6 +1,6 @@
 //! The least number of parts of any true certificate, found without the walk.
 
-use crate::bins::FIRST_BIN;
+use crate::bins::{bins, FIRST_BIN};
 
 /// Returns the least number of parts of any true certificate for runs and a
 /// threshold that pass the first checks; 0 if there is none, which happens
@@ -17,11 +17,11 @@ use crate::bins::FIRST_BIN;
 /// one of them, x and x + 1 would be points, and no part that begins above x
 /// would be moved down to x or below.
 pub fn fewest_parts(runs: &[&[u32]], threshold: u32) -> usize {
+    let runs: Vec<&[u32]> = runs.iter().map(|run| bins(run)).collect();
     let k = runs.len();
     let t = threshold as usize;
     let mut points: Vec<u64> = vec![FIRST_BIN.into(), 1 << 32];
-    let numbers = runs.iter().copied().flatten();
-    for &x in numbers.filter(|&&x| x >= FIRST_BIN) {
+    for &x in runs.iter().copied().flatten() {
         points.extend([u64::from(x), u64::from(x) + 1]);
     }
     points.sort_unstable();

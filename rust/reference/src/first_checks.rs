@@ -1,6 +1,6 @@
 //! The checks that come before a walk and before a certificate's fields.
 
-use crate::bins::bins;
+use crate::bins::{bins, first_not_rising};
 use crate::mask::all_runs;
 
 /// The largest number of runs: one for each bit of a mask.
@@ -92,15 +92,14 @@ pub(crate) fn last_end(ends: &[u32]) -> usize {
     ends.last().map_or(0, |&end| end as usize)
 }
 
-/// Refusal 4, for ends that fit the numbers. It looks at the numbers as lent: a
-/// second 0 in a run does not rise.
+/// Refusal 4, for ends that fit the numbers. Its place is among the numbers as
+/// lent, so the zeros that runs begin with count in it.
 pub(crate) fn check_rising(numbers: &[u32], ends: &[u32]) -> Result<(), Refusal> {
     let mut start = 0;
     for &end in ends {
         let end = end as usize;
-        let run = &numbers[start..end];
-        if let Some(i) = run.windows(2).position(|pair| pair[1] <= pair[0]) {
-            return Err(Refusal::new(4, start + i + 1));
+        if let Some(i) = first_not_rising(&numbers[start..end]) {
+            return Err(Refusal::new(4, start + i));
         }
         start = end;
     }

@@ -1,7 +1,7 @@
 //! Reference implementation of docs/SPECIFICATION.md: which bins do at least `t`
 //! of `k` rising lists hold? A bin is a number from 1 to 4294967295. A list may
-//! begin with a 0, the mark of a hit that could not be mapped, which is passed
-//! over.
+//! begin with any number of zeros, each the mark of a hit that could not be
+//! mapped, which are passed over.
 //!
 //! It is written from the specification alone, to be compared with other
 //! implementations. Every function outside [`testing`] is total: it never
@@ -47,7 +47,7 @@ mod walk;
 mod writer;
 
 pub use between::between;
-pub use bins::{bins, FIRST_BIN};
+pub use bins::{bins, first_not_rising, leading_zeros, FIRST_BIN};
 pub use bounds::{digits, probe_bound, probe_bound_chosen};
 pub use certificate::{decode, encode, is_true, is_true_chosen, Part};
 pub use check::{check, check_chosen, Verdict};

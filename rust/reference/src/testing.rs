@@ -1,13 +1,16 @@
 //! What the tests of this crate and the comparison share: short forms, rows
 //! from runs, all small inputs, random numbers and marks, and the specification's
 //! instances: queries as a list of runs, threshold, allowance, expected parts
-//! and outcome, checks as one of certificates and verdicts, and those about
-//! some of the runs and about tracefiles in lists of their own.
+//! and outcome, checks as one of certificates and verdicts, parts between two
+//! numbers, and those about some of the runs and about tracefiles in lists of
+//! their own.
 
 use crate::{encode, Outcome, Part, Verdict};
+use std::iter;
 
 mod lcov;
 mod many;
+mod marks;
 
 pub use lcov::{
     lcov_instances, record_forms, LcovInstance, FOUR_SECTIONS, OTHER_LINES, SHORT_RECORD_FORMS,
@@ -16,6 +19,7 @@ pub use many::{
     bound_instances, choose, chosen_instances, many_instances, many_row, renumber, ManyInstance,
     FIRST_TWO_PARTS, LAST_TWO_PARTS, OUTER_TWO_PARTS,
 };
+pub use marks::{any_marks, mark_later, mark_some, marked, marked_three_runs, BETWEEN_INSTANCES};
 
 /// The last bin.
 pub const M: u32 = u32::MAX;
@@ -44,6 +48,16 @@ pub const SEVEN_RUNS: [&[u32]; 7] = [
     &[8, 10, 19, 20],
 ];
 
+/// The parts of [`seven_and_one`] with threshold 2.
+const SEVEN_AND_ONE_PARTS: [Part; 3] = [gap(1, 54, 2), gap(55, 59, 1), gap(60, M, 2)];
+
+/// {10, 20, .., 70} and {55}. With threshold 2 the first search probes, after
+/// places 1, 2 and 4, place 5 by halving if that rounds down, but places 6 and 5 if
+/// it rounds up.
+fn seven_and_one() -> [Vec<u32>; 2] {
+    [tens(7), vec![55]]
+}
+
 /// The parts of [`sixteen_and_one`] with threshold 2.
 pub const SIXTEEN_AND_ONE_PARTS: [Part; 3] = [gap(1, 114, 2), gap(115, 119, 1), gap(120, M, 2)];
 
@@ -56,33 +70,6 @@ pub fn sixteen_and_one() -> [Vec<u32>; 2] {
 /// The first multiples of ten.
 fn tens(count: u32) -> Vec<u32> {
     (1..=count).map(|i| 10 * i).collect()
-}
-
-/// The runs with the unmapped mark in front of each.
-pub fn marked<R: AsRef<[u32]>>(runs: &[R]) -> Vec<Vec<u32>> {
-    let with_mark = |run: &R| [&[0], run.as_ref()].concat();
-    runs.iter().map(with_mark).collect()
-}
-
-/// Has runs begin with the unmapped mark in a third of all cases: all of them,
-/// or any, at least one, some with nothing after it. In the other cases none
-/// does.
-pub fn mark_some(random: &mut Random, runs: &mut [Vec<u32>]) {
-    for run in runs.iter_mut().filter(|run| run.first() == Some(&0)) {
-        run.remove(0);
-    }
-    if runs.is_empty() || !random.one_in(3) {
-        return;
-    }
-    let (one, all) = (random.below(runs.len()), random.one_in(3));
-    for (i, run) in runs.iter_mut().enumerate() {
-        if i == one || all || random.one_in(2) {
-            if random.one_in(8) {
-                run.clear();
-            }
-            run.insert(0, 0);
-        }
-    }
 }
 
 /// An answer, for short lists of expected parts.
@@ -156,16 +143,16 @@ pub fn slices<R: AsRef<[u32]>>(runs: &[R]) -> Vec<&[u32]> {
     runs.iter().map(|run| run.as_ref()).collect()
 }
 
-/// All choices of `k` runs over four numbers: the unmapped mark, the first bin
-/// and the last two.
+/// All choices of `k` runs over three numbers, the first bin and the last two,
+/// each after no unmapped mark, one or two.
 pub fn small_inputs(k: u32) -> impl Iterator<Item = Vec<Vec<u32>>> {
-    let subset = |chosen: usize| -> Vec<u32> {
-        let numbers = [0, 1, M - 1, M];
-        let is_chosen = |i: &usize| chosen >> i & 1 == 1;
-        (0..4).filter(is_chosen).map(|i| numbers[i]).collect()
+    let run = |choice: usize| -> Vec<u32> {
+        let is_chosen = |i: &usize| choice >> i & 1 == 1;
+        let bins = (0..3).filter(is_chosen).map(|i| [1, M - 1, M][i]);
+        iter::repeat_n(0, choice / 8).chain(bins).collect()
     };
-    let runs = move |choice| (0..k).map(|i| subset(choice >> (4 * i) & 15)).collect();
-    (0..16_usize.pow(k)).map(runs)
+    let runs = move |choice| (0..k).map(|i| run(choice / 24_usize.pow(i) % 24)).collect();
+    (0..24_usize.pow(k)).map(runs)
 }
 
 /// A splitmix64 generator: equal seeds give equal numbers.
@@ -259,7 +246,6 @@ pub fn instances() -> Vec<Instance> {
     let none: [&[u32]; 0] = [];
     let three = THREE_RUNS_PARTS;
     let sixteen = SIXTEEN_AND_ONE_PARTS;
-    let rounded_down = [gap(1, 54, 2), gap(55, 59, 1), gap(60, M, 2)];
     let mut all = vec![
         Instance::new(
             "three runs",
@@ -303,42 +289,12 @@ pub fn instances() -> Vec<Instance> {
             &[gap(1, 3, 2), gap(4, M, 1)],
             accepted(0, 2, 38, [2, 0]),
         ),
-        // The mark is passed over, and the largest number is a bin like others.
-        Instance::new(
-            "the mark and the last bin",
-            &[[0, M]],
-            (1, 0),
-            &[gap(1, 4_294_967_294, 1), hit(M, 1)],
-            accepted(1, 2, 34, [0, 0]),
-        ),
-        Instance::new(
-            "the mark alone",
-            &[[0]],
-            (1, 0),
-            &[gap(1, M, 1)],
-            accepted(0, 1, 19, [0, 0]),
-        ),
-        // No bin is before the first answer, so no gap is either.
-        Instance::new(
-            "the mark and the first bin, twice",
-            &[[0, 1], [0, 1]],
-            (2, 0),
-            &[hit(1, 3), gap(2, M, 3)],
-            accepted(1, 2, 34, [0, 0]),
-        ),
         Instance::new(
             "the first bin",
             &[[1]],
             (1, 0),
             &[hit(1, 1), gap(2, M, 1)],
             accepted(1, 2, 34, [0, 0]),
-        ),
-        Instance::new(
-            "three runs, each with the mark",
-            &marked(&THREE_RUNS),
-            (2, 3),
-            &three,
-            accepted(2, 6, 106, [3, 0]),
         ),
         Instance::new(
             "one empty run",
@@ -375,22 +331,11 @@ pub fn instances() -> Vec<Instance> {
             ],
             accepted(1, 6, 110, [12, 1]),
         ),
-        // In the search for 55, after places 1, 2 and 4, halving probes place
-        // 5 if it rounds down, but places 6 and 5 if it rounds up.
         Instance::new(
             "halving rounds down",
-            &[tens(7), vec![55]],
+            &seven_and_one(),
             (2, 4),
-            &rounded_down,
-            accepted(0, 3, 57, [3, 1]),
-        ),
-        // The first search starts at the first bin and not at the mark, from
-        // which it would probe other places.
-        Instance::new(
-            "halving rounds down, with the mark",
-            &[marked(&[tens(7)]).concat(), vec![55]],
-            (2, 4),
-            &rounded_down,
+            &SEVEN_AND_ONE_PARTS,
             accepted(0, 3, 57, [3, 1]),
         ),
         Instance::new(
@@ -417,22 +362,8 @@ pub fn instances() -> Vec<Instance> {
             &[],
             refused_first(4, 1),
         ),
-        Instance::new(
-            "a run that repeats the mark",
-            &[[0, 0, 5]],
-            (1, 0),
-            &[],
-            refused_first(4, 1),
-        ),
-        // Places are those of the numbers as lent, marks included.
-        Instance::new(
-            "the mark after a bin",
-            &[vec![0, 3], vec![0, 5, 0]],
-            (1, 0),
-            &[],
-            refused_first(4, 4),
-        ),
     ];
+    all.extend(marks::instances());
     // Cut in its doubling, at the seam and in its halving.
     for (allowance, probes) in [(3, [3, 0]), (4, [4, 0]), (5, [4, 1]), (6, [4, 2])] {
         all.push(Instance::new(
@@ -460,7 +391,8 @@ pub fn instances() -> Vec<Instance> {
 }
 
 /// The certificates of the specification's instances, checked for
-/// [`THREE_RUNS`] with threshold 2, and the verdict on each.
+/// [`THREE_RUNS`] with threshold 2, and the verdict on each. Marks in front of the
+/// runs change none.
 pub fn checked_instances() -> Vec<(Vec<u8>, Verdict)> {
     let parts = THREE_RUNS_PARTS;
     let whole = encode(&parts);

@@ -31,9 +31,12 @@ fn the_bound_is_a_sum_over_the_runs() {
 /// digit and never take one away.
 #[test]
 fn marks_are_counted() {
-    let (_, ends) = lay_out(&marked(&THREE_RUNS));
+    let (_, ends) = lay_out(&marked(&THREE_RUNS, &[1, 1, 1]));
     assert_eq!(probe_bound(&ends, 6), Ok(2 * 6 * (3 + 3 + 2)));
     assert_eq!(probe_bound_chosen(&ends, 6, 6), Ok(2 * 6 * (3 + 2)));
+    let (_, ends) = lay_out(&marked(&THREE_RUNS, &[0, 12, 62]));
+    assert_eq!(probe_bound(&ends, 6), Ok(2 * 6 * (2 + 5 + 7)));
+    assert_eq!(probe_bound_chosen(&ends, 6, 6), Ok(2 * 6 * (5 + 7)));
 }
 
 #[test]

@@ -2,7 +2,7 @@
 //! refusals.
 
 use reference::testing::{
-    chosen_instances, gap, hit, lay_out, slices, M, OUTER_TWO_PARTS, THREE_RUNS,
+    chosen_instances, gap, hit, lay_out, marked_three_runs, slices, M, OUTER_TWO_PARTS, THREE_RUNS,
 };
 use reference::{check, check_chosen, decode, encode, is_true_chosen, Part, Verdict};
 
@@ -16,8 +16,16 @@ fn valid(answers: u64, parts: u64) -> Verdict {
 
 #[test]
 fn every_instance() {
-    let (numbers, ends) = lay_out(&THREE_RUNS);
-    let runs = slices(&THREE_RUNS);
+    every_instance_for(&THREE_RUNS);
+    for runs in marked_three_runs() {
+        every_instance_for(&runs);
+    }
+}
+
+/// For the three runs, as they are or after marks.
+fn every_instance_for<R: AsRef<[u32]>>(runs: &[R]) {
+    let (numbers, ends) = lay_out(runs);
+    let runs = slices(runs);
     for (mask, threshold, bytes, expected) in chosen_instances() {
         let verdict = check_chosen(&numbers, &ends, mask, threshold, &bytes);
         assert_eq!(verdict, expected, "mask {mask}, threshold {threshold}");

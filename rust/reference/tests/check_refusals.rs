@@ -1,7 +1,8 @@
 //! The order and the places of the refusals of the checker.
 
 use reference::testing::{
-    checked_instances, gap, hit, lay_out, slices, M, THREE_RUNS, THREE_RUNS_PARTS,
+    checked_instances, gap, hit, lay_out, marked_three_runs, slices, M, THREE_RUNS,
+    THREE_RUNS_PARTS,
 };
 use reference::{check, decode, encode, is_true, Part, Verdict};
 
@@ -9,9 +10,14 @@ use reference::{check, decode, encode, is_true, Part, Verdict};
 const OFFSETS: [u64; 7] = [0, 19, 38, 53, 72, 87, 106];
 
 fn verdict(bytes: &[u8]) -> Verdict {
-    let (numbers, ends) = lay_out(&THREE_RUNS);
+    verdict_of(&THREE_RUNS, bytes)
+}
+
+/// The verdict for some runs, with threshold 2.
+fn verdict_of<R: AsRef<[u32]>>(runs: &[R], bytes: &[u8]) -> Verdict {
+    let (numbers, ends) = lay_out(runs);
     let verdict = check(&numbers, &ends, 2, bytes);
-    let truth = decode(bytes).is_some_and(|parts| is_true(&slices(&THREE_RUNS), 2, &parts));
+    let truth = decode(bytes).is_some_and(|parts| is_true(&slices(runs), 2, &parts));
     assert_eq!(truth, matches!(verdict, Verdict::Valid { .. }));
     verdict
 }
@@ -35,6 +41,9 @@ fn with_part(i: usize, part: Part) -> Verdict {
 fn every_instance() {
     for (bytes, expected) in checked_instances() {
         assert_eq!(verdict(&bytes), expected, "{bytes:?}");
+        for runs in marked_three_runs() {
+            assert_eq!(verdict_of(&runs, &bytes), expected, "{bytes:?}, {runs:?}");
+        }
     }
 }
 
@@ -51,6 +60,8 @@ fn first_checks_come_before_the_fields() {
     assert_eq!(refusal(&[3, 3], &[1], 1), invalid(3, 1));
     assert_eq!(refusal(&[3, 3], &[2], 1), invalid(4, 1));
     assert_eq!(refusal(&[1, 3, 3], &[1, 3], 1), invalid(4, 2));
+    assert_eq!(refusal(&[0, 0, 0, 3, 0], &[2, 5], 1), invalid(4, 4));
+    assert_eq!(refusal(&[0, 0, 0, 0, 3], &[2, 5], 1), invalid(8, 0));
     assert_eq!(refusal(&[3], &[1], 1), invalid(8, 0));
 }
 
@@ -126,7 +137,7 @@ fn refusal_9_where_the_first_is_not_the_next_uncovered_bin() {
 /// 0 is no bin, so no part begins there, whatever it says.
 #[test]
 fn refusal_9_where_a_certificate_begins_at_0() {
-    let runs = [vec![0, 5], vec![0, 5, 7]];
+    let runs = [vec![0, 5], vec![0, 0, 5, 7]];
     let (numbers, ends) = lay_out(&runs);
     let whole = [gap(1, 4, 3), hit(5, 3), gap(6, M, 1)];
     let verdict = |parts: &[Part]| check(&numbers, &ends, 2, &encode(parts));
@@ -142,14 +153,19 @@ fn refusal_9_where_a_certificate_begins_at_0() {
     }
 }
 
-/// A 0 at the start of a run contradicts no part and is held by none.
+/// Zeros at the start of a run contradict no part and are held by none.
 #[test]
 fn a_mark_contradicts_nothing() {
-    let verdict = |run: &[u32], parts: &[Part]| check(run, &[run.len() as u32], 1, &encode(parts));
-    assert_eq!(verdict(&[0], &[gap(1, M, 1)]), valid(0, 1));
-    assert_eq!(verdict(&[0, 1], &[gap(1, M, 1)]), invalid(11, 0));
-    assert_eq!(verdict(&[0, 1], &[hit(1, 1), gap(2, M, 1)]), valid(1, 2));
-    assert_eq!(verdict(&[0, 2], &[hit(1, 1), gap(2, M, 1)]), invalid(11, 0));
+    for zeros in [1, 2, 3, 64, 100] {
+        let verdict = |bins: &[u32], parts: &[Part]| {
+            let run = [&vec![0; zeros], bins].concat();
+            check(&run, &[run.len() as u32], 1, &encode(parts))
+        };
+        assert_eq!(verdict(&[], &[gap(1, M, 1)]), valid(0, 1));
+        assert_eq!(verdict(&[1], &[gap(1, M, 1)]), invalid(11, 0));
+        assert_eq!(verdict(&[1], &[hit(1, 1), gap(2, M, 1)]), valid(1, 2));
+        assert_eq!(verdict(&[2], &[hit(1, 1), gap(2, M, 1)]), invalid(11, 0));
+    }
 }
 
 #[test]

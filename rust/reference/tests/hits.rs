@@ -118,11 +118,16 @@ fn leading_zeros() {
 #[test]
 fn the_unmapped_mark() {
     let plain = "2 3\n2 5 9\n5 7 9 12\n1 9\n";
-    let marked = "2 3\n0 2 5 9\n0 5 7 9 12\n0 1 9\n";
-    assert_eq!(
-        hits(marked.as_bytes(), false),
-        hits(plain.as_bytes(), false)
-    );
+    for marked in [
+        "2 3\n0 2 5 9\n0 5 7 9 12\n0 1 9\n",
+        "2 3\n0 2 5 9\n0 0 5 7 9 12\n1 9\n",
+        "2 3\n2 5 9\n0 00 000 5 7 9 12\n00 0 1 9\n",
+    ] {
+        assert_eq!(
+            hits(marked.as_bytes(), false),
+            hits(plain.as_bytes(), false)
+        );
+    }
     prints(
         "1 0\n0 4294967295\n",
         "gap 1 4294967294 1\nhit 4294967295 1\ndone 1 2 0 0\n",
@@ -131,8 +136,18 @@ fn the_unmapped_mark() {
         "2 0\n0 1\n0 1\n",
         "hit 1 3\ngap 2 4294967295 3\ndone 1 2 0 0\n",
     );
-    refuses("1 0\n0 0 5\n", 4, 1);
+    prints(
+        "1 0\n0 0 5\n",
+        "gap 1 4 1\nhit 5 1\ngap 6 4294967295 1\ndone 1 3 0 0\n",
+    );
+    prints(
+        "1 0\n0 0 0\n5\n",
+        "gap 1 4 3\nhit 5 2\ngap 6 4294967295 3\ndone 1 3 0 0\n",
+    );
+    prints("1 0\n0 0\n", "gap 1 4294967295 1\ndone 0 1 0 0\n");
+    refuses("1 0\n5 0\n", 4, 1);
     refuses("1 0\n0 3\n0 5 0\n", 4, 4);
+    refuses("1 0\n0 0 0\n0 0 4 4\n", 4, 6);
 }
 
 #[test]
@@ -253,6 +268,11 @@ fn number_1025() {
     // It stands there even if the numbers before it do not rise.
     refuses(format!("1 0\n{}\n", vec!["7"; 1025].join(" ")), 12, 2);
     refuses(format!("1 0\n{}\n", vec!["7"; 1024].join(" ")), 4, 1);
+    // Marks count.
+    is_accepted(format!("1 0\n{}\n", vec!["0"; 1024].join(" ")));
+    refuses(format!("1 0\n{}\n", vec!["0"; 1025].join(" ")), 12, 2);
+    is_accepted(format!("1 0\n{}\n5\n", vec!["0"; 1023].join(" ")));
+    refuses(format!("1 0\n{}\n5\n", vec!["0"; 1024].join(" ")), 12, 3);
 }
 
 #[test]

@@ -153,6 +153,7 @@ fn refusal_4_comes_before_14_13_and_2() {
     refused_first((&[3, 3], &[2]), (&[], &[]), [4, 1, 0]);
     // In a run that no question is about.
     refused_first((&[1, 5, 3, 3], &[2, 4]), (&[1], &[1]), [4, 3, 0]);
+    refused_first((&[0, 0, 5, 0, 3, 0], &[3, 6]), (&[1], &[1]), [4, 5, 0]);
 }
 
 #[test]
@@ -201,7 +202,7 @@ fn sixty_four_runs() {
 /// A run that is not chosen is neither searched nor named, whatever it holds.
 #[test]
 fn runs_that_are_not_chosen() {
-    let runs: [&[u32]; 4] = [&[], &[0, 1, 2, 3, M], &[5], &[0, 5, M]];
+    let runs: [&[u32]; 4] = [&[], &[0, 1, 2, 3, M], &[0, 0, 5], &[0, 5, M]];
     let (numbers, ends) = lay_out(&runs);
     let (row, answers, certificate, results) =
         ask((&numbers, &ends), (&[4, 1], &[1, 1]), 0, [1, 72, 4]);

@@ -189,8 +189,8 @@ fn whole_walks_of_random_runs() {
     }
 }
 
-/// All runs over the mark, the first bin and the last two, with every choice of
-/// them and every threshold.
+/// All runs over the first bin and the last two, each after up to two marks, with
+/// every choice of them and every threshold.
 #[test]
 fn every_choice_of_small_inputs() {
     let mut random = Random(22);

@@ -96,32 +96,63 @@ fn refusal_4_at_the_first_number_that_does_not_rise() {
     refused_first(&[3, 3], &[2], 1, 4, 1);
     refused_first(&[3, 2, 1], &[3], 1, 4, 1);
     refused_first(&[1, 2, 2, 1], &[4], 1, 4, 2);
-    refused_first(&[0, 0], &[0, 2, 2], 3, 4, 1);
+    refused_first(&[7, 7], &[0, 2, 2], 3, 4, 1);
     refused_first(&[1, 2, 9, 3, 5, 5], &[3, 6], 1, 4, 5);
     refused_first(&[1, 2, 9, 8, 5, 5], &[4, 6], 1, 4, 3);
     refused_first(&[M, 0], &[2], 1, 4, 1);
 }
 
-/// The mark is looked at as any number, and counts in places.
+/// A mark after a number that is not 0 does not rise. Marks count in places.
 #[test]
 fn refusal_4_at_a_mark_that_does_not_rise() {
-    refused_first(&[0, 0, 5], &[3], 1, 4, 1);
+    refused_first(&[5, 0], &[2], 1, 4, 1);
     refused_first(&[0, 5, 0], &[3], 1, 4, 2);
-    refused_first(&[0, 3, 0, 0, 5], &[2, 5], 1, 4, 3);
-    refused_first(&[0, 3, 0, 5, 5], &[2, 5], 1, 4, 4);
-    assert_eq!(first_checks(&[0, 0, 5, 0], &[1, 3, 4], 3), Ok(()));
+    refused_first(&[0, 0, 5, 0], &[4], 1, 4, 3);
+    refused_first(&[0, 0, 5, 0, 0, 5], &[6], 1, 4, 3);
+    refused_first(&[0, 3, 0, 0, 5, 0], &[2, 6], 1, 4, 5);
+    refused_first(&[0, 3, 0, 0, 5, 5], &[2, 6], 1, 4, 5);
+    refused_first(&[0, 0, 0, 0, 4, 4], &[3, 6], 1, 4, 5);
 }
 
-/// A 0 at the start of a run is passed over without a probe.
+/// The comparison starts at a run's first number that is not 0, in every run
+/// anew.
+#[test]
+fn marks_at_the_start_of_a_run_are_passed_over() {
+    let passes = |numbers: &[u32], ends: &[u32]| first_checks(numbers, ends, 1) == Ok(());
+    assert!(passes(&[0, 0, 5], &[3]));
+    assert!(passes(&[0, 0, 0], &[3]));
+    assert!(passes(&[0, 0, 5, 0], &[1, 3, 4]));
+    assert!(passes(&[5, 0, 0, 5, 0, 0], &[1, 4, 6]));
+    assert!(passes(&[0, 0, 0, 0, 0, 7], &[2, 2, 6]));
+    for zeros in 0..200 {
+        let mut numbers = vec![0; zeros];
+        numbers.extend([3, 5]);
+        let end = numbers.len() as u32;
+        assert!(passes(&numbers, &[end]));
+        for broken in [0, 3, 5] {
+            numbers.push(broken);
+            refused_first(&numbers, &[end + 1], 1, 4, end.into());
+            numbers.pop();
+        }
+    }
+}
+
+/// Zeros at the start of a run are passed over without a probe.
 #[test]
 fn a_mark_takes_no_probe() {
-    let (outcome, answers, bytes) = ask(&[[0, 7], [0, 7]], 2, 0, 1, 53);
-    assert_eq!(outcome, accepted(1, 3, 53, [0, 0]));
-    assert_eq!(answers, [7]);
-    assert_eq!(bytes, encode(&[gap(1, 6, 3), hit(7, 3), gap(8, M, 3)]));
-    // Nor is it a head: the run has none from the beginning.
-    let runs: [&[u32]; 2] = [&[0], &[4]];
-    let (outcome, _, bytes) = ask(&runs, 2, 0, 0, 19);
+    let with_marks: [[&[u32]; 2]; 3] = [
+        [&[0, 7], &[0, 7]],
+        [&[0, 0, 7], &[0, 7]],
+        [&[0; 99], &[0, 0, 0, 7]],
+    ];
+    for runs in &with_marks[..2] {
+        let (outcome, answers, bytes) = ask(runs, 2, 0, 1, 53);
+        assert_eq!(outcome, accepted(1, 3, 53, [0, 0]));
+        assert_eq!(answers, [7]);
+        assert_eq!(bytes, encode(&[gap(1, 6, 3), hit(7, 3), gap(8, M, 3)]));
+    }
+    // Nor is one a head: a run of marks alone has none from the beginning.
+    let (outcome, _, bytes) = ask(&with_marks[2], 2, 0, 0, 19);
     assert_eq!(outcome, accepted(0, 1, 19, [0, 0]));
     assert_eq!(bytes, encode(&[gap(1, M, 1)]));
 }

@@ -79,7 +79,8 @@ fn whole_walk(runs: &[Vec<u32>], threshold: u32, size: Size) {
     );
 }
 
-/// All runs over the mark, the first bin and the last two, up to three runs.
+/// All runs over the first bin and the last two, each after up to two marks, up
+/// to three runs.
 #[test]
 fn all_small_inputs() {
     for k in 1..=3 {
@@ -456,12 +457,16 @@ fn random_certificates() {
 #[test]
 fn random_noise() {
     let mut random = Random(17);
+    let (mut marked, mut marked_later) = (0, 0);
     for _ in 0..50_000 {
         let small = |random: &mut Random| match random.below(12) {
             0 => random.word(),
             n => n as u32 / 2,
         };
-        let numbers: Vec<u32> = (0..random.below(6)).map(|_| small(&mut random)).collect();
+        let mut numbers: Vec<u32> = (0..random.below(6)).map(|_| small(&mut random)).collect();
+        if random.one_in(4) {
+            numbers.splice(0..0, vec![0; random.from_to(2, 4)]);
+        }
         let mut ends: Vec<u32> = (0..random.below(4)).map(|_| small(&mut random)).collect();
         if random.one_in(2) {
             ends.sort_unstable();
@@ -491,13 +496,19 @@ fn random_noise() {
                 assert_eq!(Some((number, place)), expected);
                 assert_eq!(verdict, Verdict::Invalid { number, place });
                 assert_eq!((answers, certificate), ([7; 3], [7; 60]));
+                marked_later += u32::from(number == 4 && numbers[place as usize] == 0);
             }
             _ => {
                 assert_eq!(expected, None);
                 assert!(!matches!(verdict, Verdict::Invalid { number: 1..=4, .. }));
+                marked += u32::from(ends[0] > 1 && numbers.starts_with(&[0, 0]));
             }
         }
     }
+    assert!(
+        marked > 500 && marked_later > 200,
+        "{marked}, {marked_later}"
+    );
 }
 
 /// The first checks once more, over all numbers with the run of each.
@@ -516,7 +527,10 @@ fn first_refusal(numbers: &[u32], ends: &[u32], threshold: u32) -> Option<(u8, u
         return Some((3, k));
     }
     let run_of = |place: usize| ends.iter().filter(|&&end| end as usize <= place).count();
+    // A 0 before a number is a mark at the run's start, or else is refused itself.
+    let falls = |i: &usize| numbers[*i] <= numbers[i - 1] && numbers[i - 1] > 0;
     (1..numbers.len())
-        .find(|&i| run_of(i - 1) == run_of(i) && numbers[i - 1] >= numbers[i])
+        .filter(|&i| run_of(i - 1) == run_of(i))
+        .find(falls)
         .map(|i| (4, i as u64))
 }

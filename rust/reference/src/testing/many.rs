@@ -2,7 +2,8 @@
 //! alone, and the specification's instances.
 
 use super::{
-    answers_of, gap, hit, sixteen_and_one, M, SIXTEEN_AND_ONE_PARTS, THREE_RUNS, THREE_RUNS_PARTS,
+    answers_of, gap, hit, marked, marked_three_runs, sixteen_and_one, M, SIXTEEN_AND_ONE_PARTS,
+    THREE_RUNS, THREE_RUNS_PARTS,
 };
 use crate::{encode, named_runs, ManyOutcome, Part, Refusal, Verdict};
 
@@ -159,13 +160,20 @@ pub fn many_instances() -> Vec<ManyInstance> {
         let row = [number, place, question, 0, 0, 0, 0, 0];
         ManyInstance::new(name, masks, thresholds, row)
     };
-    let sixteen = &SIXTEEN_AND_ONE_PARTS;
-    let twice = |allowance, row| ManyInstance {
-        runs: sixteen_and_one().to_vec(),
-        allowance,
-        ..ManyInstance::new("a search that halves, asked twice", &[3, 3], &[2, 2], row)
-    };
-    vec![
+    let mut all = marked_instances();
+    for marks in [[0, 0], [1, 0], [3, 64]] {
+        all.extend(search_instances(&marks));
+    }
+    for runs in marked_three_runs() {
+        let name = "three questions after marks";
+        let whole = whole.clone();
+        all.push(ManyInstance {
+            name,
+            runs,
+            ..whole
+        });
+    }
+    all.extend([
         whole.clone(),
         ManyInstance {
             name: "three questions, exactly what they need",
@@ -218,35 +226,6 @@ pub fn many_instances() -> Vec<ManyInstance> {
             &[&[hit(1, 4), gap(2, 8, 4), hit(9, 4), gap(10, M, 4)]],
             &[2, 68],
         ),
-        ManyInstance {
-            runs: vec![vec![0, 4], vec![0, 4, 6]],
-            allowance: 0,
-            ..ManyInstance::new(
-                "runs that begin with the mark",
-                &[1, 2, 3],
-                &[1, 1, 2],
-                [0, 0, 0, 4, 11, 193, 0, 0],
-            )
-        }
-        .writing(
-            &[
-                &[gap(1, 3, 1), hit(4, 1), gap(5, M, 1)],
-                &[
-                    gap(1, 3, 2),
-                    hit(4, 2),
-                    gap(5, 5, 2),
-                    hit(6, 2),
-                    gap(7, M, 2),
-                ],
-                &[gap(1, 3, 3), hit(4, 3), gap(5, M, 1)],
-            ],
-            &[1, 53, 3, 140, 4, 193],
-        ),
-        twice(14, [0, 0, 0, 0, 6, 114, 8, 6]).writing(&[sixteen, sixteen], &[0, 57, 0, 114]),
-        // Cut in the second search's halving, at its seam, and before it.
-        twice(12, [7, 1, 1, 0, 4, 76, 8, 4]).writing(&[sixteen, &sixteen[..1]], &[0, 57]),
-        twice(11, [7, 1, 1, 0, 4, 76, 8, 3]).writing(&[sixteen, &sixteen[..1]], &[0, 57]),
-        twice(7, [7, 1, 1, 0, 4, 76, 4, 3]).writing(&[sixteen, &sixteen[..1]], &[0, 57]),
         refused("a run not below k", &[7, 8], &[2, 1], [13, 1, 1]),
         refused("no run is chosen", &[7, 0], &[2, 1], [13, 1, 1]),
         refused("every bit", &[u64::MAX, 7], &[2, 2], [13, 0, 0]),
@@ -278,11 +257,76 @@ pub fn many_instances() -> Vec<ManyInstance> {
             room: [0, 0, 0],
             ..ManyInstance::new("no question and no room", &[], &[], [0; 8])
         },
+    ]);
+    all
+}
+
+/// Those about runs that begin with marks, of which some have nothing else and
+/// some a mark further on.
+fn marked_instances() -> Vec<ManyInstance> {
+    let first = &[gap(1, 3, 1), hit(4, 1), gap(5, M, 1)];
+    let second = &[
+        gap(1, 3, 2),
+        hit(4, 2),
+        gap(5, 5, 2),
+        hit(6, 2),
+        gap(7, M, 2),
+    ];
+    let both = &[gap(1, 3, 3), hit(4, 3), gap(5, M, 1)];
+    let (third, outer) = (&[gap(1, M, 4)], &[gap(1, 3, 5), hit(4, 1), gap(5, M, 5)]);
+    let of = |runs: &[&[u32]], masks: &[u64], thresholds: &[u32], row| ManyInstance {
+        runs: runs.iter().map(|run| run.to_vec()).collect(),
+        allowance: 0,
+        ..ManyInstance::new("runs that begin with marks", masks, thresholds, row)
+    };
+    let one_each: [&[u32]; 2] = [&[0, 4], &[0, 4, 6]];
+    let several: [&[u32]; 3] = [&[0, 0, 0, 4], &[0, 4, 6], &[0, 0]];
+    let broken: [&[u32]; 2] = [&[0, 0, 4], &[0, 6, 0]];
+    let refused = [4, 5, 0, 0, 0, 0, 0, 0];
+    vec![
+        of(
+            &one_each,
+            &[1, 2, 3],
+            &[1, 1, 2],
+            [0, 0, 0, 4, 11, 193, 0, 0],
+        )
+        .writing(&[first, second, both], &[1, 53, 3, 140, 4, 193]),
+        of(
+            &several,
+            &[1, 2, 3, 4, 5],
+            &[1, 1, 2, 1, 1],
+            [0, 0, 0, 5, 15, 265, 0, 0],
+        )
+        .writing(
+            &[first, second, both, third, outer],
+            &[1, 53, 3, 140, 4, 193, 4, 212, 5, 265],
+        ),
+        // Of a run that is not chosen too, with no question too, and before 14.
+        of(&broken, &[1], &[1], refused),
+        of(&broken, &[], &[], refused),
+        of(&broken, &[3], &[], refused),
+    ]
+}
+
+/// Those about a search that halves, asked twice, in runs after so many marks.
+fn search_instances(marks: &[usize]) -> [ManyInstance; 4] {
+    let parts = &SIXTEEN_AND_ONE_PARTS;
+    let twice = |allowance, row| ManyInstance {
+        runs: marked(&sixteen_and_one(), marks),
+        allowance,
+        ..ManyInstance::new("a search that halves, asked twice", &[3, 3], &[2, 2], row)
+    };
+    [
+        twice(14, [0, 0, 0, 0, 6, 114, 8, 6]).writing(&[parts, parts], &[0, 57, 0, 114]),
+        // Cut in the second search's halving, at its seam, and before it.
+        twice(12, [7, 1, 1, 0, 4, 76, 8, 4]).writing(&[parts, &parts[..1]], &[0, 57]),
+        twice(11, [7, 1, 1, 0, 4, 76, 8, 3]).writing(&[parts, &parts[..1]], &[0, 57]),
+        twice(7, [7, 1, 1, 0, 4, 76, 4, 3]).writing(&[parts, &parts[..1]], &[0, 57]),
     ]
 }
 
 /// Certificates checked for some of the three runs: the mask, the threshold,
-/// the certificate's bytes and the verdict.
+/// the certificate's bytes and the verdict. Marks in front of the runs change none.
 pub fn chosen_instances() -> Vec<(u64, u32, Vec<u8>, Verdict)> {
     let valid = |answers, parts| Verdict::Valid { answers, parts };
     let invalid = |number, place| Verdict::Invalid { number, place };

@@ -84,9 +84,9 @@ fn any_number(random: &mut Random, kind: usize, spread: usize) -> u32 {
     }
 }
 
-/// From 1 to `most_runs` runs of up to `most_numbers` numbers each, and a mark
-/// in front of some in a third of all cases. Often the numbers are close
-/// together, so that runs share many of them.
+/// From 1 to `most_runs` runs of up to `most_numbers` numbers each, and marks in
+/// front of some in a third of all cases. Often the numbers are close together,
+/// so that runs share many of them.
 pub fn any_runs(random: &mut Random, most_runs: usize, most_numbers: usize) -> Vec<Vec<u32>> {
     let k = 1 + random.below(most_runs);
     let kind = random.below(5);
