@@ -15,23 +15,17 @@ use reference::{all_runs, encode, trace};
 /// The instances of docs/SPECIFICATION.md.
 #[test]
 fn every_instance() {
-    every_instance_for(&THREE_RUNS);
     for runs in marked_three_runs() {
-        every_instance_for(&runs);
+        let (numbers, ends) = lay_out(&runs);
+        let runs = slices(&runs);
+        let task = Task::of_all(&runs, 2);
+        let mut seen = Seen::default();
+        for (bytes, expected) in checked_instances() {
+            assert_eq!(reference::check(&numbers, &ends, 2, &bytes), expected);
+            seen.compare_with_truth(0, task, &bytes);
+        }
+        seen.met(&[0, 8, 9, 10, 11], 1);
     }
-}
-
-/// For the three runs, as they are or after marks.
-fn every_instance_for<R: AsRef<[u32]>>(runs: &[R]) {
-    let (numbers, ends) = lay_out(runs);
-    let runs = slices(runs);
-    let task = Task::of_all(&runs, 2);
-    let mut seen = Seen::default();
-    for (bytes, expected) in checked_instances() {
-        assert_eq!(reference::check(&numbers, &ends, 2, &bytes), expected);
-        seen.compare_with_truth(0, task, &bytes);
-    }
-    seen.met(&[0, 8, 9, 10, 11], 1);
 }
 
 /// With all runs chosen.

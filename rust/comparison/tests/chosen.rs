@@ -16,27 +16,20 @@ use reference::{all_runs, encode, trace_chosen};
 
 #[test]
 fn every_instance() {
-    every_instance_for(&THREE_RUNS);
-    for runs in marked_three_runs() {
-        every_instance_for(&runs);
+    for (numbers, ends) in marked_three_runs().map(|runs| lay_out(&runs)) {
+        let mut seen = Seen::default();
+        for (mask, threshold, bytes, expected) in chosen_instances() {
+            let verdict = reference::check_chosen(&numbers, &ends, mask, threshold, &bytes);
+            assert_eq!(verdict, expected);
+            let question = Question {
+                numbers: &numbers,
+                ends: &ends,
+                threshold,
+            };
+            seen.compare_chosen(0, question, mask, &bytes);
+        }
+        seen.met(&[0, 2, 9, 10, 11, 13], 1);
     }
-}
-
-/// For the three runs, as they are or after marks.
-fn every_instance_for<R: AsRef<[u32]>>(runs: &[R]) {
-    let (numbers, ends) = lay_out(runs);
-    let mut seen = Seen::default();
-    for (mask, threshold, bytes, expected) in chosen_instances() {
-        let verdict = reference::check_chosen(&numbers, &ends, mask, threshold, &bytes);
-        assert_eq!(verdict, expected);
-        let question = Question {
-            numbers: &numbers,
-            ends: &ends,
-            threshold,
-        };
-        seen.compare_chosen(0, question, mask, &bytes);
-    }
-    seen.met(&[0, 2, 9, 10, 11, 13], 1);
 }
 
 /// With some runs chosen.

@@ -16,23 +16,17 @@ fn valid(answers: u64, parts: u64) -> Verdict {
 
 #[test]
 fn every_instance() {
-    every_instance_for(&THREE_RUNS);
     for runs in marked_three_runs() {
-        every_instance_for(&runs);
-    }
-}
-
-/// For the three runs, as they are or after marks.
-fn every_instance_for<R: AsRef<[u32]>>(runs: &[R]) {
-    let (numbers, ends) = lay_out(runs);
-    let runs = slices(runs);
-    for (mask, threshold, bytes, expected) in chosen_instances() {
-        let verdict = check_chosen(&numbers, &ends, mask, threshold, &bytes);
-        assert_eq!(verdict, expected, "mask {mask}, threshold {threshold}");
-        if !matches!(verdict, Verdict::Invalid { number: 2 | 13, .. }) {
-            let truth = |parts: Vec<Part>| is_true_chosen(&runs, mask, threshold, &parts);
-            let truth = decode(&bytes).is_some_and(truth);
-            assert_eq!(truth, matches!(verdict, Verdict::Valid { .. }));
+        let (numbers, ends) = lay_out(&runs);
+        let runs = slices(&runs);
+        for (mask, threshold, bytes, expected) in chosen_instances() {
+            let verdict = check_chosen(&numbers, &ends, mask, threshold, &bytes);
+            assert_eq!(verdict, expected, "mask {mask}, threshold {threshold}");
+            if !matches!(verdict, Verdict::Invalid { number: 2 | 13, .. }) {
+                let truth = |parts: Vec<Part>| is_true_chosen(&runs, mask, threshold, &parts);
+                let truth = decode(&bytes).is_some_and(truth);
+                assert_eq!(truth, matches!(verdict, Verdict::Valid { .. }));
+            }
         }
     }
 }

@@ -40,7 +40,6 @@ fn with_part(i: usize, part: Part) -> Verdict {
 #[test]
 fn every_instance() {
     for (bytes, expected) in checked_instances() {
-        assert_eq!(verdict(&bytes), expected, "{bytes:?}");
         for runs in marked_three_runs() {
             assert_eq!(verdict_of(&runs, &bytes), expected, "{bytes:?}, {runs:?}");
         }

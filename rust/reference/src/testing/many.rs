@@ -164,7 +164,7 @@ pub fn many_instances() -> Vec<ManyInstance> {
     for marks in [[0, 0], [1, 0], [3, 64]] {
         all.extend(search_instances(&marks));
     }
-    for runs in marked_three_runs() {
+    for runs in marked_three_runs().into_iter().skip(1) {
         let name = "three questions after marks";
         let whole = whole.clone();
         all.push(ManyInstance {

@@ -14,9 +14,10 @@ pub fn marked<R: AsRef<[u32]>>(runs: &[R], marks: &[usize]) -> Vec<Vec<u32>> {
     runs.iter().zip(marks).map(with_marks).collect()
 }
 
-/// [`THREE_RUNS`] after unmapped marks: one each, and different numbers of them.
-pub fn marked_three_runs() -> [Vec<Vec<u32>>; 4] {
-    let marks = [[1, 1, 1], [1, 2, 0], [0, 3, 65], [64, 0, 129]];
+/// [`THREE_RUNS`] after unmapped marks: none, one each, and different numbers of
+/// them.
+pub fn marked_three_runs() -> [Vec<Vec<u32>>; 5] {
+    let marks = [[0, 0, 0], [1, 1, 1], [1, 2, 0], [0, 3, 65], [64, 0, 129]];
     marks.map(|marks| marked(&THREE_RUNS, &marks))
 }
 
@@ -124,11 +125,11 @@ pub(super) fn instances() -> Vec<Instance> {
             accepted(1, 3, 53, [0, 0]),
         ),
     ];
-    for runs in marked_three_runs() {
+    for runs in &marked_three_runs()[1..] {
         let marks: Vec<usize> = runs.iter().map(|run| leading_zeros(run)).collect();
         all.push(Instance::new(
             format!("three runs after {marks:?} marks"),
-            &runs,
+            runs,
             (2, 3),
             &THREE_RUNS_PARTS,
             accepted(2, 6, 106, [3, 0]),
