@@ -6,7 +6,7 @@ use mathlib.Core.List.{List}
 use mathlib.Core.Path.{sym, ap, _∙_}
 use native.Mathlib.Omega.{arith}
 use Rattle.model.specs.Refusals.{over}
-use Rattle.model.specs.Runs.{firstBin, from, unrisen}
+use Rattle.model.specs.Runs.{firstBin, from, unrisenRun}
 use Rattle.lcov_form.specs.Claims.{RunRead}
 use Rattle.lcov_form.specs.Reading.{Reading, readFrom, sectionOf, resultOf, lcovRun}
 use Rattle.lcov_form.proofs.Room.{section-room}
@@ -23,7 +23,7 @@ run-read file index row =
       rest = drop-append-seam (r .run) (drop (length (r .run)) row);
       front = seam ∙ run-front (length file) (length row) 0 0 s;
       whole = λ p. seam ∙ run-whole (length file) (length row) 0 0 s p;
-      rises = λ place. ap (unrisen place) seam ∙ after-zero place (r .run) (run-rises (length file) (length row) 0 0 s 0);
+      rises = λ place. ap (unrisenRun place) seam ∙ after-zero place (r .run) (run-rises (length file) (length row) 0 0 s 0);
       bins = ap (from firstBin) seam ∙ (all-bins (r .run) (run-rises (length file) (length row) 0 0 s 0) ∙ sym seam);
       enough = λ h place. run-room (length file) (length row) 0 0 s (let k = section-room file index in omega (arith, h, k)) place;
     }

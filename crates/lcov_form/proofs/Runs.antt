@@ -9,7 +9,7 @@ use mathlib.Core.Option.{none}
 use mathlib.Core.Path.{_≡_, refl, sym, ap, _∙_}
 use native.Mathlib.Omega.{arith}
 use Rattle.model.specs.Refusals.{Check, passed, refusal}
-use Rattle.model.specs.Runs.{firstBin, from, unrisenAfter, unrisen}
+use Rattle.model.specs.Runs.{firstBin, from, rank, unrisenAfter, unrisen, unrisenRun}
 use Rattle.model.proofs.FirstChecks.{after-next}
 use Rattle.lcov_form.specs.Form.{Line, Section, _andThen_, covered, passedOver, recordOf}
 use Rattle.lcov_form.specs.Reading.{stop, write, readFrom, coveredIn}
@@ -87,7 +87,7 @@ run-rises size room =
     (λ n last line rest x e k f i. refl)
     (λ n last line rest x r e k f h i. rw (lt-ltb last x k, unrisenAfter) (h (suc i)))
 
--- what rises after 0 rises from any place on, and is all bins
+-- what rises after 0 is all bins, and rises from any place on
 after-any : (i j x : ℕ) (s : List ℕ) → unrisenAfter i x s ≡ none → unrisenAfter j x s ≡ none
 unfolding unrisenAfter
 after-any i j x [] e = refl
@@ -95,15 +95,18 @@ after-any i j x (y ∷ s) e =
     let n = after-next i x y s e in
     rw (lt-ltb x y (n .0), unrisenAfter) (after-any (suc i) (suc j) y s (n .1))
 
-pub after-zero : (place : ℕ) (s : List ℕ) → unrisenAfter 0 0 s ≡ none → unrisen place s ≡ none
-unfolding unrisen
-after-zero place [] e = refl
-after-zero place (x ∷ s) e = after-any 1 place x s (after-next 0 0 x s e .1)
-
 pub all-bins : (s : List ℕ) → unrisenAfter 0 0 s ≡ none → from firstBin s ≡ s
 unfolding from firstBin
 all-bins [] e = refl
 all-bins (x ∷ s) e = let n = after-next 0 0 x s e .0 in rw (le-ltb x 1 (omega (arith, n)), from)
+
+pub after-zero : (place : ℕ) (s : List ℕ) → unrisenAfter 0 0 s ≡ none → unrisenRun place s ≡ none
+unfolding unrisenRun unrisen
+after-zero place s e = ap (unrisen (place + rank firstBin s)) (all-bins s e) ∙ rises (place + rank firstBin s) s e
+  where
+    rises : (i : ℕ) (l : List ℕ) → unrisenAfter 0 0 l ≡ none → unrisen i l ≡ none
+    rises i [] h = refl
+    rises i (x ∷ l) h = after-any 1 i x l (after-next 0 0 x l h .1)
 
 -- a row with room for all covered lines is never too short
 pub run-room : (size room n last : ℕ) (s : Section) → n + length (coveredIn s) ≤ room → (place : ℕ) → readFrom size room n last s .check ≢ refusal 5 place

@@ -6,7 +6,7 @@ use mathlib.Core.Option.{none}
 use mathlib.Core.Path.{_≡_}
 use lib.ListN.{length, take, drop}
 use Rattle.model.specs.Refusals.{passed, refusal}
-use Rattle.model.specs.Runs.{firstBin, from, unrisen}
+use Rattle.model.specs.Runs.{firstBin, from, unrisenRun}
 use Rattle.lcov_form.specs.Reading.{coveredIn, sectionOf, lcovRun}
 
 pub record RunRead (file : List ℕ) (index : ℕ) (row : List ℕ) : Type 0 where
@@ -17,7 +17,7 @@ pub record RunRead (file : List ℕ) (index : ℕ) (row : List ℕ) : Type 0 whe
   pub front : take (lcovRun file index row .count) (lcovRun file index row .row) ≡ take (lcovRun file index row .count) (coveredIn (sectionOf file index))
   pub whole : lcovRun file index row .check ≡ passed → take (lcovRun file index row .count) (lcovRun file index row .row) ≡ coveredIn (sectionOf file index)
   -- Wherever they stand among the numbers of a question, it does not refuse them as 4, and all of them are bins.
-  pub rises : (place : ℕ) → unrisen place (take (lcovRun file index row .count) (lcovRun file index row .row)) ≡ none
+  pub rises : (place : ℕ) → unrisenRun place (take (lcovRun file index row .count) (lcovRun file index row .row)) ≡ none
   pub bins : from firstBin (take (lcovRun file index row .count) (lcovRun file index row .row)) ≡ take (lcovRun file index row .count) (lcovRun file index row .row)
   -- A row of a seventh of the file's length, rounded down, is never too short.
   pub enough : length file < 7 * suc (length row) → (place : ℕ) → lcovRun file index row .check ≢ refusal 5 place
