@@ -13,7 +13,9 @@
  * zeros alone as an empty one. They are no bins: they are passed over without a
  * probe, are never answers, and no certificate speaks of them. They are among the
  * `numbers`, and count in ends, in places and towards QUORUM_MAX_NUMBERS. A 0 after
- * another number of its run does not rise and is refusal 4.
+ * another number of its run does not rise and is refusal 4. Beside its cost below, a
+ * call reads some 2 * log2(z) numbers of a run that begins with z zeros, one number
+ * if there are none, to find where its bins begin: once, whatever the questions.
  *
  * docs/SPECIFICATION.md says whole what each call does with any input.
  *

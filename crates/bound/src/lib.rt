@@ -79,8 +79,8 @@ fn refused(number: u8, place: usize) -> Bound
     }
 }
 
-// The bound on the probes of a walk over the runs with these ends, beside a certificate of `parts` parts. Numbers are counted as they are lent, so a run that
-// begins with a 0 may make it larger than the bound over its bins, never smaller.
+// The bound on the probes of a walk over the runs with these ends, beside a certificate of `parts` parts. Numbers are counted as they are lent, so zeros at
+// a run's start may make it larger than the bound over the bins, never smaller.
 pub fn probe_bound(ends: &[u32], parts: u32) -> Bound
     ensures { λ r. ⌜ r ≡ probeBound (now (ends .entry)) parts ⌝ }
 {

@@ -145,8 +145,8 @@ fn refused(number: u8, place: usize) -> Verdict
 }
 
 // Whether a certificate, whoever wrote it, is true of the lists and the threshold: it covers the bins from 1 on in order, and each part is true of the runs that
-// it names. After the first checks at most numbers + parts × runs steps: one for each run of each part, and one for each number passed, to which no part goes
-// back.
+// it names. After the first checks, and once it is found where each run's bins begin, at most numbers + parts × runs steps: one for each run of each part,
+// and one for each number passed, to which no part goes back.
 pub fn check(numbers: &[u32], ends: &[u32], threshold: u32, certificate: &[u8]) -> Verdict
     ensures verdict { λ r. ⌜ verdictIs r ≡ check (now (numbers .entry)) (now (ends .entry)) threshold (now (certificate .entry)) ⌝ }
     ensures accepted { λ r. ⌜ Accepted (now (numbers .entry)) (now (ends .entry)) threshold (now (certificate .entry)) (verdictIs r) ⌝ }

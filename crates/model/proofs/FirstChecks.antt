@@ -95,7 +95,7 @@ risen i (x ∷ s) e h =
     let z : 0 ≤ x = omega arith in
     rise-cons z (h .each x (List·Memᴰ·head refl)) (risen-after i x s e (record { each = λ y m. h .each y (List·Memᴰ·tail m) }))
 
--- A run that rises as it is lent, zeros at its start passed over: its bins rise, and its numbers are in order.
+-- A run that rises after the zeros at its start: its bins rise, and its numbers are in order.
 pub bins-rise : (i : ℕ) (s : List ℕ) → unrisenRun i s ≡ none → Fits pastBin s → Rise firstBin (from firstBin s)
 unfolding unrisenRun
 bins-rise i s e h =
@@ -131,7 +131,7 @@ not-unrisen a e numbers ends h = go (unrisenRun a (slice numbers a e)) refl
     go none k = (k, rw (k, unrisenIn) at h)
     go (some i) k = let z : some i ≡ none = rw (k, unrisenIn) at h in absurd (let w : _≡_ {A = ℕ} 0 1 = cc in omega arith)
 
--- So each run rises as it is lent, and the bins of each rise.
+-- So each run rises after the zeros at its start.
 pub lists-rise : (a : ℕ) (numbers ends : List ℕ) → unrisenIn a numbers ends ≡ none → (i : ℕ) → i < length ends
     → unrisenRun (getD (a ∷ ends) i 0) (slice numbers (getD (a ∷ ends) i 0) (getD ends i 0)) ≡ none
 lists-rise a numbers [] h i l = absurd (omega arith)

@@ -22,9 +22,6 @@ pub rise-bin : {a x : ℕ} {s : List ℕ} → Rise a s → List·Memᴰ x s → 
 rise-bin rise-nil m = absurd (List·Memᴰ·not-nil m)
 rise-bin {x = y} (rise-cons l u r) m = ⊎-elim (λ e. omega arith) (λ n. rise-bin r n) (List·Memᴰ·cases-cons m)
 
-pub rise-head : {a x : ℕ} {s : List ℕ} → Rise a (x ∷ s) → a ≤ x
-rise-head (rise-cons l u r) = l
-
 pub rise-head-bin : {a x : ℕ} {s : List ℕ} → Rise a (x ∷ s) → x < pastBin
 rise-head-bin (rise-cons l u r) = u
 

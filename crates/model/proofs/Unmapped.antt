@@ -2,7 +2,7 @@
 -- and no part between two numbers shows it. Assumes nothing.
 use Prim.Native.Nat.{ℕ, zero, suc, _+_, _≤_, _<_}
 use lib.Dec.{ltb, leb}
-use lib.ListN.{replicate}
+use lib.ListN.{length, getD, replicate}
 use mathlib.Core.Bool.{Bool, true, false, _&&_}
 use mathlib.Core.List.{List, [], _∷_, _++_, List·Memᴰ, List·Memᴰ·head, List·Memᴰ·tail, List·Memᴰ·not-nil, List·Memᴰ·cases-cons}
 use mathlib.Core.Logic.{⊎-elim}
@@ -15,7 +15,8 @@ use Rattle.model.specs.Runs.{Run, firstBin, from, rank, unrisenAfter, un
 use Rattle.model.proofs.Count.{count-some}
 use Rattle.model.proofs.Exact.{exact}
 use Rattle.model.proofs.FirstChecks.{after-next}
-use Rattle.model.proofs.From.{from-pass, from-stop, from-nil, rank-pass, rank-stop, rise-least, holds-mem}
+use Rattle.model.proofs.From.{from-pass, from-stop, from-nil, rank-pass, rank-stop, rank-on, rise-least, holds-mem}
+use Rattle.model.proofs.Ordered.{place-high}
 use Rattle.model.proofs.Tests.{both, lt-or-le}
 use Rattle.model.proofs.Truth.{Fit}
 
@@ -24,6 +25,13 @@ unfolding firstBin
 first-is = refl
 
 -- ---- zeros at the start of a run
+
+-- A bin stands after all of them, and a 0 at the place up to which there are zeros is one of them.
+pub bin-after : (s : List ℕ) (i : ℕ) → 1 ≤ getD s i 0 → rank firstBin s ≤ i
+bin-after s i h = let f = first-is in place-high firstBin s i (omega arith)
+
+pub zero-among : (s : List ℕ) (i : ℕ) → i ≤ rank firstBin s → i < length s → getD s i 0 < 1 → i < rank firstBin s
+zero-among s i h l b = let f = first-is in rank-on firstBin s i h l (omega arith)
 
 -- However many there are, they are passed over, and the run is that without them.
 pub zeros-passed : (z : ℕ) (s : List ℕ) → from firstBin (replicate z 0 ++ s) ≡ from firstBin s

@@ -1,5 +1,5 @@
 -- docs/SPECIFICATION.md, 'Instances': the starred ones, with one that tells rounding the halving place down from rounding it up, some that tell the two
--- kinds of probes and some with an unmapped mark.
+-- kinds of probes and some with unmapped marks.
 -- Definitions only.
 use Prim.Native.Nat.{ℕ}
 use mathlib.Core.List.{List, [], _∷_, _++_, map}
@@ -101,7 +101,7 @@ probeKinds =
     []
 
 -- Runs that begin with unmapped marks: those of the listing, and the long one of roundedDown, with one or more in front; two that have one bin each; one of a mark
--- and two of marks only; one of them beside {5}; {0, 3, 9} and {0, 0, 3}. The allowances are just enough. And runs that do not rise after their marks.
+-- and two of marks only; {0, 0, 5}; a run of marks only beside {5}; {0, 3, 9} and {0, 0, 3}. The allowances are just enough. And runs that do not rise after their marks.
 unfoldable pub unmapped : List Instance
 unmapped =
     limited 3 (0 ∷ 2 ∷ 5 ∷ 9 ∷ 0 ∷ 0 ∷ 0 ∷ 5 ∷ 7 ∷ 9 ∷ 12 ∷ 0 ∷ 0 ∷ 1 ∷ 9 ∷ []) (4 ∷ 11 ∷ 15 ∷ []) 2 (accepted 2 6 106 3 0) listingParts ∷

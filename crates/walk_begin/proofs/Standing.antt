@@ -95,7 +95,7 @@ module _ (m : ℕ) where
       (all-standing (suc i) numbers ends firsts positions (omega arith) (omega arith)
       (λ j l. let k : i + suc j ≡ suc i + j = omega arith in h (suc j) (omega arith) ∙ ap (λ n. beginsAt m n (getD firsts j 0) (getD ends j 0)) k))
 
-  pub standing-placed : (numbers ends firsts positions : List ℕ) → Inside numbers firsts ends → ChosenAt ends firsts m positions
+  pub standing-placed : (numbers ends firsts positions : List ℕ) → Inside numbers firsts ends → ChosenAt ends firsts m positions (length ends)
       → PlacedAt numbers ends (map (standing m) (runsAt 0 numbers firsts ends)) positions
   standing-placed numbers ends firsts positions n c =
       record {

@@ -10,7 +10,7 @@ use Rattle.model.specs.Refusals.{fallsFrom, lastEnd, unrisenIn}
 use Rattle.model.specs.Runs.{Run, bit, names, mostRuns}
 use Rattle.walk_state.specs.State.{Inside}
 
--- ends in order, the last of them the number of numbers, runs that rise as they are lent, and a place for each run
+-- ends in order, the last of them the number of numbers, runs that rise after the zeros at their start, and a place for each run
 pub record Lent (numbers ends firsts : List ℕ) : Type 0 where
   pub rise : fallsFrom 0 0 ends ≡ none
   pub last : lastEnd 0 ends ≡ length numbers
@@ -25,10 +25,10 @@ standing chosen r = elim (names chosen r) [ true ↦ r | false ↦ record { labe
 unfoldable pub beginsAt : ℕ → ℕ → ℕ → ℕ → ℕ
 beginsAt chosen run first e = elim (eqb (bit chosen run) 1) [ true ↦ first | false ↦ e ]
 
--- each run's position is where it begins
-pub record ChosenAt (ends firsts : List ℕ) (chosen : ℕ) (positions : List ℕ) : Type 0 where
+-- the position of each of the first n runs is where it begins
+pub record ChosenAt (ends firsts : List ℕ) (chosen : ℕ) (positions : List ℕ) (n : ℕ) : Type 0 where
   pub size : length positions ≡ length ends
-  pub each : (i : ℕ) → i < length ends → getD positions i 0 ≡ beginsAt chosen i (getD firsts i 0) (getD ends i 0)
+  pub each : (i : ℕ) → i < n → getD positions i 0 ≡ beginsAt chosen i (getD firsts i 0) (getD ends i 0)
 
 -- a place in each run, a mask that chooses some of them, and a position and a key for each
 pub record BeginReady (numbers ends firsts : List ℕ) (chosen : ℕ) (positions keys : List ℕ) : Type 0 where

@@ -26,7 +26,7 @@ pub fn first_places(numbers: &[u32], ends: &[u32], firsts: &mut [u32])
 // Puts each chosen run at its first bin and every other at its end.
 fn begin_each(ends: &[u32], firsts: &[u32], chosen: u64, positions: &mut [u32])
     requires { ⌜ (length (now ends) ≤ mostRuns) × (length (now firsts) ≡ length (now ends)) × (length (now positions) ≡ length (now ends)) ⌝ }
-    ensures { λ _. ⌜ ChosenAt (now (ends .entry)) (now (firsts .entry)) chosen (now (positions .exit)) ⌝ }
+    ensures { λ _. ⌜ ChosenAt (now (ends .entry)) (now (firsts .entry)) chosen (now (positions .exit)) (length (now (ends .entry))) ⌝ }
 {
     let mut i: usize = 0;
     while i < ends.len() {

@@ -57,21 +57,22 @@ fn measure(bins: &Input, threshold: usize, repetitions: usize) -> (usize, [Durat
         assert_eq!(result, counts);
         times[1].push(time);
 
-        times[2].push(first_checks(&zeros));
-        times[3].push(first_checks(bins));
+        times[2].push(no_question(&zeros));
+        times[3].push(no_question(bins));
 
         let (time, result) = same.ask_same(&zeros, threshold);
         assert_eq!(result, counts.into());
         times[4].push(time);
     }
     assert!(found == expected && found == same);
-    let [zeros, bins, checks_of_zeros, checks_of_bins, same] = times.map(median);
-    let pass = checks_of_zeros.saturating_sub(checks_of_bins);
+    let [zeros, bins, over_zeros, over_bins, same] = times.map(median);
+    let pass = over_zeros.saturating_sub(over_bins);
     (parts, [zeros, bins, pass, same])
 }
 
-/// Times a call with no question, which makes the first checks and nothing else.
-fn first_checks(Input { numbers, ends }: &Input) -> Duration {
+/// Times a call with no question, which makes the first checks and finds where the
+/// bins of each run begin.
+fn no_question(Input { numbers, ends }: &Input) -> Duration {
     let (time, result) = timed(numbers, || {
         quorum::query_many(numbers, ends, &[], &[], 0, &mut [], &mut [], &mut [])
     });

@@ -172,6 +172,11 @@ fn instances() {
     assert_eq!(quorum::check(&[3, 3], &[2], 1, &[]), refusal(4, 1));
     assert_eq!(quorum::check(&[0, 0, 5, 0], &[4], 1, &[]), refusal(4, 3));
     assert_eq!(quorum::check(&[0, 0, 5], &[3], 1, &[]), refusal(9, 0));
+    let five = encode(&[gap(1, 4, 1), hit(5, 1), gap(6, M, 1)]);
+    let checked = quorum::check(&[0, 0, 5], &[3], 1, &five).unwrap();
+    assert_eq!((checked.answers, checked.parts), (1, 3));
+    let nothing = encode(&[gap(1, M, 1)]);
+    assert_eq!(quorum::check(&[0, 0, 5], &[3], 1, &nothing), refusal(11, 0));
     assert_eq!(quorum::check(&[7; 65], &[0; 65], 1, &[]), refusal(1, 65));
     assert_eq!(quorum::check(&[7], &[1], 2, &[]), refusal(2, 2));
 }

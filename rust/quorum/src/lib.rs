@@ -24,7 +24,9 @@
 //! zeros alone as an empty one. They are no bins: they are passed over without a
 //! probe, are never answers, and no certificate speaks of them. They are among the
 //! `numbers`, and count in ends, in places and towards [`MAX_NUMBERS`]. A 0 after
-//! another number of its run does not rise and is refused.
+//! another number of its run does not rise and is refused. Beside its cost below, a
+//! call reads some 2 × log2(z) numbers of a run that begins with z zeros, one number
+//! if there are none, to find where its bins begin: once, whatever the questions.
 //!
 //! All runs lie one after another in `numbers`, at most [`MAX_NUMBERS`] of them.
 //! The *end* of a run, `ends[i]`, is the place in `numbers` after its last

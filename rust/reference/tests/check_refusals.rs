@@ -46,6 +46,15 @@ fn every_instance() {
     }
 }
 
+/// {0, 0, 5} is judged as {5}.
+#[test]
+fn after_marks() {
+    let verdict = |parts: &[Part]| check(&[0, 0, 5], &[3], 1, &encode(parts));
+    let parts = [gap(1, 4, 1), hit(5, 1), gap(6, M, 1)];
+    assert_eq!(verdict(&parts), valid(1, 3));
+    assert_eq!(verdict(&[gap(1, M, 1)]), invalid(11, 0));
+}
+
 #[test]
 fn first_checks_come_before_the_fields() {
     let broken = [0xff];

@@ -1,20 +1,14 @@
 -- `zeros_front` doubles a front until a bin stands after it. The measure is what is left of the run. Assumes nothing.
-use Prim.Native.Nat.{ℕ, _-_, _≤_}
+use Prim.Native.Nat.{_-_}
 use borrow.Author.Needs.{needs}
-use lib.ListN.{length, getD}
-use mathlib.Core.List.{List}
+use lib.ListN.{length}
 use mathlib.Core.Path.{_≡_, refl}
 use native.Mathlib.Omega.{arith}
 use Rattle.model.proofs.From.{rank-le}
-use Rattle.model.proofs.Ordered.{place-high}
-use Rattle.model.specs.Runs.{firstBin, rank}
+use Rattle.model.proofs.Unmapped.{bin-after}
+use Rattle.model.specs.Runs.{firstBin}
 use Rattle.first_bin.proofs.zeros_front.Statement.{statement}
 use Rattle.first_bin.proofs.zeros_front.Tie as tie
-
--- no zero of the run's start stands from its first bin on
-zeros-before : (s : List ℕ) (i : ℕ) → 1 ≤ getD s i 0 → rank firstBin s ≤ i
-unfolding firstBin
-zeros-before s i h = place-high firstBin s i h
 
 abbrev Inv-loop : tie.InvT-loop
 Inv-loop run n front₀ front = n ≡ length run
@@ -35,7 +29,7 @@ returns : tie.Need-returns Inv-loop μ-loop
 returns c =
     let l = c .before .before .before in
     let e = l .loop .inv in
-    (zeros-before (l .before .args .run .now) (l .loop .front) (c .if1 .taken), omega arith)
+    (bin-after (l .before .args .run .now) (l .loop .front) (c .if1 .taken), omega arith)
 
 add-front : tie.Need-add-front Inv-loop μ-loop
 add-front c = search needs

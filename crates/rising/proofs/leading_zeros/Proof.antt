@@ -1,24 +1,14 @@
 -- `leading_zeros` counts the zeros at a run's start: from block to block, then from number to number. The invariant: before place i all are zeros. The measure is
 -- what is left. Assumes nothing.
-use Prim.Native.Nat.{ℕ, _-_, _≤_, _<_}
+use Prim.Native.Nat.{_-_, _≤_}
 use borrow.Author.Needs.{needs}
-use lib.ListN.{length, getD}
-use mathlib.Core.List.{List}
+use lib.ListN.{length}
 use native.Mathlib.Omega.{arith}
-use Rattle.model.proofs.From.{rank-le, rank-on}
-use Rattle.model.proofs.Ordered.{place-high}
+use Rattle.model.proofs.From.{rank-le}
+use Rattle.model.proofs.Unmapped.{bin-after, zero-among}
 use Rattle.model.specs.Runs.{firstBin, rank}
 use Rattle.rising.proofs.leading_zeros.Statement.{statement}
 use Rattle.rising.proofs.leading_zeros.Tie as tie
-
--- the first number that is not 0 stands where they end, and a 0 before
-ends-at : (s : List ℕ) (i : ℕ) → 1 ≤ getD s i 0 → rank firstBin s ≤ i
-unfolding firstBin
-ends-at s i h = place-high firstBin s i h
-
-goes-on : (s : List ℕ) (i : ℕ) → i ≤ rank firstBin s → i < length s → getD s i 0 < 1 → i < rank firstBin s
-unfolding firstBin
-goes-on s i h l b = rank-on firstBin s i h l b
 
 abbrev Inv-loop : tie.InvT-loop
 Inv-loop run i₀ i = i ≤ rank firstBin run
@@ -42,7 +32,7 @@ returns : tie.Need-returns Inv-loop μ-loop
 returns c =
     let l = c .before .before .before in
     let s = l .before .before .before .args .run .now in
-    let e = ends-at s (l .loop .i) (c .if1 .taken) in
+    let e = bin-after s (l .loop .i) (c .if1 .taken) in
     let v = l .loop .inv in
     omega arith
 
@@ -56,7 +46,7 @@ loop-again : tie.Need-loop-again Inv-loop μ-loop
 loop-again c =
     let l = c .before .before .before in
     let s = l .before .before .before .args .run .now in
-    let e = goes-on s (l .loop .i) (l .loop .inv) (omega arith) (c .if1 .left) in
+    let e = zero-among s (l .loop .i) (l .loop .inv) (omega arith) (c .if1 .left) in
     omega arith
 
 returns-2 : tie.Need-returns-2 Inv-loop μ-loop

@@ -1,22 +1,17 @@
 -- `zero_part` passes over a block of zeros at a time. The invariant: before place i all are zeros, and there is at least one. The measure is what is left.
 -- Assumes nothing.
-use Prim.Native.Nat.{ℕ, _-_, _≤_, _<_}
+use Prim.Native.Nat.{_-_, _≤_}
 use borrow.Author.Needs.{needs}
-use lib.ListN.{length, getD}
-use mathlib.Core.List.{List}
+use lib.ListN.{length}
 use mathlib.Core.Path.{_≡_, refl, sym, _∙_}
 use native.Mathlib.Omega.{arith}
-use Rattle.model.proofs.From.{rank-le, rank-on}
+use Rattle.model.proofs.From.{rank-le}
+use Rattle.model.proofs.Unmapped.{zero-among}
 use Rattle.model.specs.Runs.{firstBin, rank}
 use Rattle.rising.specs.Rising.{block, fallsIn}
 use Rattle.rising.proofs.Rising.{zeros-on}
 use Rattle.rising.proofs.zero_part.Statement.{statement}
 use Rattle.rising.proofs.zero_part.Tie as tie
-
--- a 0 at the start is below the first bin
-first-zero : (s : List ℕ) → 0 < length s → getD s 0 0 < 1 → 1 ≤ rank firstBin s
-unfolding firstBin
-first-zero s h b = rank-on firstBin s 0 (omega arith) h b
 
 abbrev Inv-loop : tie.InvT-loop
 Inv-loop run n i₀ i = (1 ≤ i) × (i ≤ rank firstBin run) × (n ≡ length run)
@@ -36,7 +31,7 @@ returns-2 c = omega arith
 loop-holds : tie.Need-loop-holds Inv-loop μ-loop
 loop-holds c =
     let s = c .before .before .before .before in
-    (omega arith, first-zero (s .args .run .now) (omega arith) (omega arith), refl)
+    (omega arith, zero-among (s .args .run .now) 0 (omega arith) (omega arith) (omega arith), refl)
 
 add-loop : tie.Need-add-loop Inv-loop μ-loop
 add-loop c =

@@ -279,13 +279,13 @@ fn marked_instances() -> Vec<ManyInstance> {
         allowance: 0,
         ..ManyInstance::new("runs that begin with marks", masks, thresholds, row)
     };
-    let one_each: [&[u32]; 2] = [&[0, 4], &[0, 4, 6]];
+    let two_runs: [&[u32]; 2] = [&[0, 4], &[0, 0, 0, 4, 6]];
     let several: [&[u32]; 3] = [&[0, 0, 0, 4], &[0, 4, 6], &[0, 0]];
     let broken: [&[u32]; 2] = [&[0, 0, 4], &[0, 6, 0]];
     let refused = [4, 5, 0, 0, 0, 0, 0, 0];
     vec![
         of(
-            &one_each,
+            &two_runs,
             &[1, 2, 3],
             &[1, 1, 2],
             [0, 0, 0, 4, 11, 193, 0, 0],

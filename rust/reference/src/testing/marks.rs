@@ -17,7 +17,7 @@ pub fn marked<R: AsRef<[u32]>>(runs: &[R], marks: &[usize]) -> Vec<Vec<u32>> {
 /// [`THREE_RUNS`] after unmapped marks: none, one each, and different numbers of
 /// them.
 pub fn marked_three_runs() -> [Vec<Vec<u32>>; 5] {
-    let marks = [[0, 0, 0], [1, 1, 1], [1, 2, 0], [0, 3, 65], [64, 0, 129]];
+    let marks = [[0, 0, 0], [1, 1, 1], [1, 3, 2], [0, 3, 65], [64, 0, 129]];
     marks.map(|marks| marked(&THREE_RUNS, &marks))
 }
 
@@ -111,6 +111,20 @@ pub(super) fn instances() -> Vec<Instance> {
             accepted(0, 1, 19, [0, 0]),
         ),
         Instance::new(
+            "two runs of marks alone",
+            &[vec![0, 0], vec![0, 0, 0]],
+            (2, 0),
+            &[gap(1, M, 3)],
+            accepted(0, 1, 19, [0, 0]),
+        ),
+        Instance::new(
+            "an equal number after marks, behind a run of marks alone",
+            &[vec![0, 0], vec![0, 0, 7, 7]],
+            (1, 0),
+            &[],
+            refused_first(4, 5),
+        ),
+        Instance::new(
             "marks alone beside a bin",
             &[vec![0, 0, 0], vec![5]],
             (1, 0),
@@ -200,7 +214,7 @@ pub const BETWEEN_INSTANCES: [(&[u32], [u32; 2], &[u32]); 12] = [
     (&[0, 0, 3], [0, 0], &[]),
     (&[0, 0, 0, 2, 7, M], [2, 7], &[2, 7]),
     (&[0, 0, 0, 2, 7, M], [3, M], &[7, M]),
-    (&[0, 0], [0, M], &[]),
+    (&[0, 0], [0, 9], &[]),
     (&[5, 0], [0, 9], &[]),
     (&[0, 0, 5, 0], [0, 9], &[]),
     (&[0, 0, 5, 5], [0, 9], &[]),
