@@ -73,7 +73,7 @@ fn leading_zeros(run: &[u32]) -> usize
         }
         i += 1;
     }
-    i
+    run.len()
 }
 
 // A place up to which each number of a list is above the one before, at most a block short of the first that is not.
