@@ -15,7 +15,7 @@ use Rattle.model.proofs.From.{from-nil, from-pass, from-stop, rank-nil, rank-pa
 use Rattle.model.proofs.FirstChecks.{run-ordered}
 use Rattle.model.proofs.Ordered.{ordered-from}
 use Rattle.model.proofs.Tests.{lt-or-le}
-use Rattle.model.proofs.Unmapped.{first-is}
+use Rattle.model.proofs.Zeros.{first-is}
 use Rattle.model.specs.Between.{within, between}
 use Rattle.model.specs.Runs.{firstBin, from, rank, unrisenRun}
 use Rattle.between.specs.Places.{Spans}

@@ -1,7 +1,7 @@
 -- What holds of every run read: it fits the row, it rises, and it is the front of the section's covered lines, all of them where nothing is refused.
 -- Assumes nothing.
 use Prim.Native.Nat.{ℕ, suc, _+_, _≤_}
-use borrow.Author.Tests.{lt-ltb, le-ltb}
+use borrow.Author.Tests.{lt-ltb}
 use lib.ListN.{length, take}
 use mathlib.Core.List.{List, [], _∷_}
 use mathlib.Core.Logic.{_≢_}
@@ -9,8 +9,10 @@ use mathlib.Core.Option.{none}
 use mathlib.Core.Path.{_≡_, refl, sym, ap, _∙_}
 use native.Mathlib.Omega.{arith}
 use Rattle.model.specs.Refusals.{Check, passed, refusal}
-use Rattle.model.specs.Runs.{firstBin, from, rank, unrisenAfter, unrisen, unrisenRun}
+use Rattle.model.specs.Runs.{firstBin, from, unrisenAfter, unrisen, unrisenRun}
 use Rattle.model.proofs.FirstChecks.{after-next}
+use Rattle.model.proofs.From.{from-nil}
+use Rattle.model.proofs.Zeros.{others-kept, others-checked}
 use Rattle.lcov_form.specs.Form.{Line, Section, _andThen_, covered, passedOver, recordOf}
 use Rattle.lcov_form.specs.Reading.{stop, write, readFrom, coveredIn}
 use Rattle.lcov_form.proofs.Steps.{by-lines}
@@ -96,17 +98,13 @@ after-any i j x (y ∷ s) e =
     rw (lt-ltb x y (n .0), unrisenAfter) (after-any (suc i) (suc j) y s (n .1))
 
 pub all-bins : (s : List ℕ) → unrisenAfter 0 0 s ≡ none → from firstBin s ≡ s
-unfolding from firstBin
-all-bins [] e = refl
-all-bins (x ∷ s) e = let n = after-next 0 0 x s e .0 in rw (le-ltb x 1 (omega (arith, n)), from)
+all-bins [] e = from-nil firstBin
+all-bins (x ∷ s) e = others-kept x s (after-next 0 0 x s e .0)
 
 pub after-zero : (place : ℕ) (s : List ℕ) → unrisenAfter 0 0 s ≡ none → unrisenRun place s ≡ none
-unfolding unrisenRun unrisen
-after-zero place s e = ap (unrisen (place + rank firstBin s)) (all-bins s e) ∙ rises (place + rank firstBin s) s e
-  where
-    rises : (i : ℕ) (l : List ℕ) → unrisenAfter 0 0 l ≡ none → unrisen i l ≡ none
-    rises i [] h = refl
-    rises i (x ∷ l) h = after-any 1 i x l (after-next 0 0 x l h .1)
+unfolding from unrisen unrisenRun
+after-zero place [] e = refl
+after-zero place (x ∷ s) e = let n = after-next 0 0 x s e in others-checked place x s (n .0) ∙ after-any 1 place x s (n .1)
 
 -- a row with room for all covered lines is never too short
 pub run-room : (size room n last : ℕ) (s : Section) → n + length (coveredIn s) ≤ room → (place : ℕ) → readFrom size room n last s .check ≢ refusal 5 place

@@ -16,14 +16,15 @@ use native.Mathlib.Nat.{div-eq-of-lt, div-lt-iff-lt-mul, one-mul}
 use native.Mathlib.Omega.{arith}
 use Rattle.model.specs.Demands.{Fits}
 use Rattle.model.specs.Refusals.{Check, passed, refusal, _then_, refuseIf, refuseAt, fallsFrom, lastEnd, unrisenIn, countCheck, thresholdCheck, listChecks, maskCheck, firstChecks, chosenChecks}
-use Rattle.model.specs.Runs.{firstBin, pastBin, slice, from, runsFrom, runs, chosen, rank, unrisenAfter, unrisen, unrisenRun, mostNumbers, mostRuns}
+use Rattle.model.specs.Runs.{firstBin, pastBin, slice, from, runsFrom, runs, chosen, unrisenAfter, unrisenRun, mostNumbers, mostRuns}
 use Rattle.model.specs.Rows.{Rise, rise-nil, rise-cons, Ordered, ordered-nil, ordered-cons}
-use Rattle.model.proofs.From.{from-pass, from-stop, rise-from, from-from, from-mem}
+use Rattle.model.proofs.From.{from-pass, from-stop, from-nil}
 use Rattle.model.proofs.Masks.{Labelled, labelled-nil, labelled-cons, ascending}
 use Rattle.model.proofs.Chosen.{chosen-ascending, chosen-rising, chosen-all, ones-chosen}
 use Rattle.model.proofs.Tests.{lt-or-le, or-false}
 use Rattle.model.proofs.Truth.{Fit}
 use Rattle.model.proofs.Walking.{Rising}
+use Rattle.model.proofs.Zeros.{first-is, zero-unchecked, bin-checked}
 
 -- ---- checks in order
 
@@ -88,38 +89,32 @@ risen-after i x (y ∷ s) e h =
     let n = after-next i x y s e in
     rise-cons (n .0) (h .each y (List·Memᴰ·head refl)) (risen-after (suc i) y s (n .1) (record { each = λ z m. h .each z (List·Memᴰ·tail m) }))
 
-risen : (i : ℕ) (s : List ℕ) → unrisen i s ≡ none → Fits pastBin s → Rise 0 s
-unfolding unrisen
-risen i [] e h = rise-nil
-risen i (x ∷ s) e h =
-    let z : 0 ≤ x = omega arith in
-    rise-cons z (h .each x (List·Memᴰ·head refl)) (risen-after i x s e (record { each = λ y m. h .each y (List·Memᴰ·tail m) }))
-
 -- A run that rises after the zeros at its start: its bins rise, and its numbers are in order.
 pub bins-rise : (i : ℕ) (s : List ℕ) → unrisenRun i s ≡ none → Fits pastBin s → Rise firstBin (from firstBin s)
-unfolding unrisenRun
-bins-rise i s e h =
-    let r = risen (i + rank firstBin s) (from firstBin s) e (record { each = λ x m. h .each x (from-mem firstBin s m) }) in
-    subst (λ l. Rise firstBin l) (from-from firstBin firstBin s (omega arith)) (rise-from firstBin (from firstBin s) r)
+bins-rise i [] e h = rw (from-nil firstBin) rise-nil
+bins-rise i (x ∷ s) e h =
+    let t : Fits pastBin s = record { each = λ y m. h .each y (List·Memᴰ·tail m) } in
+    ⊎-elim
+    (λ (q : x < firstBin). rw (from-pass firstBin x s q) (bins-rise (suc i) s (sym (zero-unchecked i x s q) ∙ e) t))
+    (λ (q : firstBin ≤ x).
+    rw (from-stop firstBin x s q)
+    (rise-cons q (h .each x (List·Memᴰ·head refl)) (risen-after i x s (sym (bin-checked i x s q) ∙ e) t)))
+    (lt-or-le x firstBin)
 
 ordered-after : (i x : ℕ) (s : List ℕ) → unrisenAfter i x s ≡ none → Ordered x s
 ordered-after i x [] e = ordered-nil
 ordered-after i x (y ∷ s) e = let n = after-next i x y s e in let l : x ≤ y = omega (arith, n .0) in ordered-cons l (ordered-after (suc i) y s (n .1))
 
-zeros-ordered : (i : ℕ) (s : List ℕ) → unrisen i (from firstBin s) ≡ none → Ordered 0 s
-unfolding firstBin unrisen
-zeros-ordered i [] e = ordered-nil
-zeros-ordered i (x ∷ s) e =
-    ⊎-elim
-    (λ (q : x < 1).
-    let z : 0 ≡ x = omega arith in
-    ordered-cons (omega arith) (subst (λ y. Ordered y s) z (zeros-ordered i s (sym (ap (unrisen i) (from-pass firstBin x s q)) ∙ e))))
-    (λ (q : 1 ≤ x). ordered-cons (omega arith) (ordered-after i x s (sym (ap (unrisen i) (from-stop firstBin x s q)) ∙ e)))
-    (lt-or-le x 1)
-
 pub run-ordered : (i : ℕ) (s : List ℕ) → unrisenRun i s ≡ none → Ordered 0 s
-unfolding unrisenRun
-run-ordered i s e = zeros-ordered (i + rank firstBin s) s e
+run-ordered i [] e = ordered-nil
+run-ordered i (x ∷ s) e =
+    ⊎-elim
+    (λ (q : x < firstBin).
+    let f = first-is in
+    let z : 0 ≡ x = omega arith in
+    ordered-cons (omega arith) (subst (λ y. Ordered y s) z (run-ordered (suc i) s (sym (zero-unchecked i x s q) ∙ e))))
+    (λ (q : firstBin ≤ x). ordered-cons (omega arith) (ordered-after i x s (sym (bin-checked i x s q) ∙ e)))
+    (lt-or-le x firstBin)
 
 -- Where no number is out of order in its run: in the first run none is, nor in the others.
 pub not-unrisen : (a e : ℕ) (numbers ends : List ℕ) → unrisenIn a numbers (e ∷ ends) ≡ none

@@ -30,3 +30,4 @@ pub mod Tests
 pub mod Truth
 pub mod Unmapped
 pub mod Walking
+pub mod Zeros

@@ -9,7 +9,7 @@ use Rattle.model.specs.Rows.{Rise}
 use Rattle.model.specs.Runs.{Run, firstBin, pastBin, runs, chosen}
 use Rattle.model.specs.Walk.{walk}
 use Rattle.model.proofs.FirstChecks.{chosen-passed, runs-rising}
-use Rattle.model.proofs.Unmapped.{first-is}
+use Rattle.model.proofs.Zeros.{first-is}
 use Rattle.model.proofs.Walking.{map-mem}
 use Rattle.walk_progress.specs.Progress.{onward}
 use Rattle.walk_write.specs.Writes.{countsOf, goesOn, Fitted}

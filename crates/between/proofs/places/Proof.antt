@@ -9,7 +9,7 @@ use Rattle.model.specs.Rows.{Ordered}
 use Rattle.rising.specs.Found.{foundPlace}
 use Rattle.model.specs.Runs.{firstBin, unrisenRun}
 use Rattle.model.proofs.FirstChecks.{run-ordered}
-use Rattle.model.proofs.Unmapped.{first-is}
+use Rattle.model.proofs.Zeros.{first-is}
 use Rattle.arith.specs.Order.{greater}
 use Rattle.between.proofs.Parts.{between-none, between-unrisen, spans-none, spans-ranks}
 use Rattle.between.proofs.places.Statement.{statement}

@@ -46,7 +46,8 @@ number-at-requires : tie.Need-number-at-requires Inv-loop μ-loop
 number-at-requires c κs =
     let u = c .before in
     let t = turn-of u in
-    place-inside (pre-of t) (t .before .loop .inv .0) (t .loop-test .taken) (u .usize-of-u32 .ensures) (c .first-place .ensures)
+    let p = place-inside (pre-of t) (t .before .loop .inv .0) (t .loop-test .taken) (u .usize-of-u32 .ensures) (c .first-place .ensures) in
+    (omega (arith, p .0), p .1)
 
 cursor-at-requires : tie.Need-cursor-at-requires Inv-loop μ-loop
 cursor-at-requires c κs =

@@ -5,7 +5,7 @@ use lib.ListN.{length}
 use mathlib.Core.Path.{_≡_, refl}
 use native.Mathlib.Omega.{arith}
 use Rattle.model.proofs.From.{rank-le}
-use Rattle.model.proofs.Unmapped.{bin-after}
+use Rattle.model.proofs.Zeros.{bin-after}
 use Rattle.model.specs.Runs.{firstBin}
 use Rattle.first_bin.proofs.zeros_front.Statement.{statement}
 use Rattle.first_bin.proofs.zeros_front.Tie as tie

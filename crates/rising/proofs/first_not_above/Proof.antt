@@ -47,7 +47,7 @@ returns : tie.Need-returns Inv-loop μ-loop
 returns c =
     let l = c .before .before .before .before .loop in
     let a = c .before .before .before .before .before .before .before .args in
-    sym (l .inv .1 ∙ unrisen-stop (a .start) (a .list .now) (l .i) (l .inv .0) (omega arith) (c .if1 .taken))
+    sym (l .inv .1 ∙ unrisen-stop (a .start) (a .list .now) (l .i) (l .inv .0) (omega arith) (omega arith))
 
 add-i : tie.Need-add-i Inv-loop μ-loop
 add-i c = omega arith

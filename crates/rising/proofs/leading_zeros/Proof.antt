@@ -5,7 +5,7 @@ use borrow.Author.Needs.{needs}
 use lib.ListN.{length}
 use native.Mathlib.Omega.{arith}
 use Rattle.model.proofs.From.{rank-le}
-use Rattle.model.proofs.Unmapped.{bin-after, zero-among}
+use Rattle.model.proofs.Zeros.{bin-after, zero-among}
 use Rattle.model.specs.Runs.{firstBin, rank}
 use Rattle.rising.proofs.leading_zeros.Statement.{statement}
 use Rattle.rising.proofs.leading_zeros.Tie as tie

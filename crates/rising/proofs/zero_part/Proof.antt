@@ -6,7 +6,7 @@ use lib.ListN.{length}
 use mathlib.Core.Path.{_≡_, refl, sym, _∙_}
 use native.Mathlib.Omega.{arith}
 use Rattle.model.proofs.From.{rank-le}
-use Rattle.model.proofs.Unmapped.{zero-among}
+use Rattle.model.proofs.Zeros.{zero-among}
 use Rattle.model.specs.Runs.{firstBin, rank}
 use Rattle.rising.specs.Rising.{block, fallsIn}
 use Rattle.rising.proofs.Rising.{zeros-on}
