@@ -6,7 +6,7 @@ use Rattle.model.specs.Certificate.{firstOf, lastOf, answersOf, bytesOf, number
 use Rattle.model.specs.Compared.{wholeWalk, partsOf, cost, doublingProbe, halvingProbe, doublingsOf, halvingsOf}
 use Rattle.model.specs.Refusals.{_then_, refuseIf, refuseAt, fallsFrom, lastEnd, unrisenIn, countCheck, thresholdCheck, listChecks, firstChecks, met, after, cut, cutWalk, over, outcomeOf, query}
 use Rattle.model.specs.Runs.{firstBin, lastBin, pastBin, from, rank, runsFrom, runs, unrisenAfter, unrisen, unrisenRun, total, one, count, mask}
-use Rattle.model.specs.Walk.{headOf, head, leastHead, tthHead, doubling, halving, seek, searchIn, searches, searched, movedOn, settle, round, walk}
+use Rattle.model.specs.Walk.{headOf, head, leastHead, enoughHead, doubling, halving, seek, searchIn, searches, searched, movedOn, settle, round, walk}
 use Rattle.text_read.specs.Pieces.{onFirst, split}
 use Rattle.text_read.specs.Numbers.{isDigit, allDigits, decimalValue, value, number}
 use Rattle.text_write.specs.Decimal.{decimalIn, decimal}
@@ -27,6 +27,6 @@ unfolding listingInput listingText searchInput searchText refusedInput refusedTe
     firstOf lastOf answersOf bytesOf numberOf field encodePart encode readBody readField wholeWalk partsOf cost doublingProbe halvingProbe doublingsOf halvingsOf
     _then_ refuseIf refuseAt fallsFrom lastEnd unrisenIn countCheck thresholdCheck listChecks firstChecks met after cut cutWalk over outcomeOf query
     firstBin lastBin pastBin from rank runsFrom runs unrisenAfter unrisen unrisenRun total one count mask
-    headOf head leastHead tthHead doubling halving seek searchIn searches searched movedOn settle round walk
+    headOf head leastHead enoughHead doubling halving seek searchIn searches searched movedOn settle round walk
     decimalIn decimal numbersAfter line partLine partLines doneLine refuseLine partsFrom partsHeld rendered
 listing-printed = (refl, refl, refl, refl)

@@ -4,18 +4,18 @@
 use Prim.Native.Nat.{ℕ, _*_, _≤_}
 use lib.ListN.{length}
 use mathlib.Core.List.{List, [], _∷_, List·Memᴰ}
-use mathlib.Core.Logic.{⊎-elim, _≢_}
+use mathlib.Core.Logic.{_≢_}
 use mathlib.Core.Path.{_≡_}
 use native.Mathlib.Nat.{le-trans, mul-le-mul, mul-le-mul-left, mul-le-mul-right}
 use native.Mathlib.Omega.{arith}
 use Rattle.model.specs.Compared.{wholeWalk, probesIn, digits, boundOf, boundIn}
 use Rattle.model.specs.Demands.{Fits, refusedBy}
-use Rattle.model.specs.Refusals.{passed, firstChecks, query}
-use Rattle.model.specs.Runs.{Run, pastBin, mostNumbers, runs, total}
+use Rattle.model.specs.Refusals.{Check, passed, answeredBy, query, queryWeighted}
+use Rattle.model.specs.Runs.{Run, pastBin, mostNumbers, runs, weighted, total}
 use Rattle.model.proofs.Demands.{whole-bound, never-spent}
 use Rattle.model.proofs.Digits.{digits-mono, digits-least}
-use Rattle.model.proofs.Enough.{listed-numbers, passed-or-refused}
-use Rattle.model.proofs.FirstChecks.{Listed, first-passed, fit}
+use Rattle.model.proofs.Enough.{NotSpent, first-not-spent, weighted-not-spent, spent-passed, listed-numbers, weighted-numbers}
+use Rattle.model.proofs.FirstChecks.{Listed, first-passed, weighted-passed, fit, weighted-fit}
 use Rattle.model.proofs.Truth.{Fit}
 
 -- In a run of n bins the whole walk makes at most 2 × n × digits n probes.
@@ -33,49 +33,65 @@ sum-bound n (r ∷ rs) h =
     let d = mul-le-mul-left (length (r .bins)) (digits-mono l) in
     omega arith
 
-module _ (numbers ends : List ℕ) (p : Listed numbers ends) where
-  -- For runs of n numbers in all the sum over the runs is at most 2 × n × digits n.
-  numbers-bound : total (λ r. boundIn (length (r .bins)) r) (runs numbers ends) ≤ boundOf (length numbers) (length numbers)
-  unfolding boundOf
-  numbers-bound =
-      let n = listed-numbers numbers ends p in
-      let k = sum-bound (length numbers) (runs numbers ends) n in
-      let i = mul-le-mul-right (2 * digits (length numbers)) n in
-      omega arith
+-- For runs of at most n numbers in all the sum over the runs is at most 2 × n × digits n.
+numbers-bound : (n : ℕ) (rs : List Run) → total (λ r. length (r .bins)) rs ≤ n → total (λ r. boundIn (length (r .bins)) r) rs ≤ boundOf n n
+unfolding boundOf
+numbers-bound n rs l =
+    let k = sum-bound n rs l in
+    let i = mul-le-mul-right (2 * digits n) l in
+    omega arith
 
-  -- And that is at most 2 × 1048576 × 21, since there are at most 1048576 numbers.
-  most-bound : boundOf (length numbers) (length numbers) ≤ 2 * mostNumbers * 21
-  unfolding boundOf
-  most-bound =
-      let l = p .few-numbers in
-      mul-le-mul (mul-le-mul-left 2 l) (digits-least (length numbers) 21 (omega arith))
+-- And that is at most 2 × 1048576 × 21, where there are at most 1048576 numbers.
+most-bound : (n : ℕ) → n ≤ mostNumbers → boundOf n n ≤ 2 * mostNumbers * 21
+unfolding boundOf
+most-bound n l = mul-le-mul (mul-le-mul-left 2 l) (digits-least n 21 (omega arith))
 
-  pub lists-bound : total (λ r. boundIn (length (r .bins)) r) (runs numbers ends) ≤ 2 * mostNumbers * 21
-  lists-bound = le-trans numbers-bound most-bound
+pub lists-bound : (numbers ends : List ℕ) → Listed numbers ends → total (λ r. boundIn (length (r .bins)) r) (runs numbers ends) ≤ 2 * mostNumbers * 21
+lists-bound numbers ends p =
+    le-trans (numbers-bound (length numbers) (runs numbers ends) (listed-numbers numbers ends p)) (most-bound (length numbers) (p .few-numbers))
+
+-- A question over runs that its first checks make fit, with an allowance of 2 × n × digits n for each run of n bins: refusal 7 never occurs, whatever the input.
+allowance-enough-by : (c : Check) (rs : List Run) (t allowance : ℕ) (answers certificate : List ℕ) → NotSpent c → (c ≡ passed → Fit rs t)
+    → (c ≡ passed → total (λ r. boundIn (length (r .bins)) r) rs ≤ allowance) → refusedBy (answeredBy c rs t allowance answers certificate .outcome) ≢ 7
+unfolding answeredBy
+allowance-enough-by c rs t allowance answers certificate d fits l e =
+    let i = spent-passed c rs t allowance answers certificate d e in
+    let g = fits i in
+    never-spent g (λ r. boundIn (length (r .bins)) r) (run-probes g) allowance (length answers) (length certificate) (l i) (rw i at e)
 
 module _ (numbers ends : List ℕ) (t allowance : ℕ) (answers certificate : List ℕ) (fits : Fits pastBin numbers) where
-  -- Only a question that passes the first checks is refused as 7.
-  spent-passed : refusedBy (query numbers ends t allowance answers certificate .outcome) ≡ 7 → firstChecks numbers ends t ≡ passed
-  spent-passed e =
-      ⊎-elim (λ i. i) (λ k. absurd (omega (arith, k .1))) (passed-or-refused numbers ends t allowance answers certificate)
-
-  -- An allowance of 2 × n × digits n for each run of n bins is enough: refusal 7 never occurs, whatever the input.
   pub allowance-enough : total (λ r. boundIn (length (r .bins)) r) (runs numbers ends) ≤ allowance
       → refusedBy (query numbers ends t allowance answers certificate .outcome) ≢ 7
   unfolding query
-  allowance-enough l e =
-      let i = spent-passed e in
-      let g = fit numbers ends t fits i in
-      never-spent g (λ r. boundIn (length (r .bins)) r) (run-probes g) allowance (length answers) (length certificate) l (rw (i, query) at e)
+  allowance-enough l =
+      allowance-enough-by _ (runs numbers ends) t allowance answers certificate (first-not-spent numbers ends t) (fit numbers ends t fits) (λ e. l)
 
   -- And so is 2 × n × digits n, where n is the count of all numbers.
   pub numbers-enough : boundOf (length numbers) (length numbers) ≤ allowance
       → refusedBy (query numbers ends t allowance answers certificate .outcome) ≢ 7
-  numbers-enough l e = allowance-enough (le-trans (numbers-bound numbers ends (first-passed numbers ends t (spent-passed e) .lists)) l) e
+  unfolding query
+  numbers-enough l =
+      allowance-enough-by _ (runs numbers ends) t allowance answers certificate (first-not-spent numbers ends t) (fit numbers ends t fits)
+      (λ e. le-trans (numbers-bound (length numbers) (runs numbers ends) (listed-numbers numbers ends (first-passed numbers ends t e .lists))) l)
 
   -- And so is 44040192, whatever the count of numbers.
   pub always-enough : 2 * mostNumbers * 21 ≤ allowance → refusedBy (query numbers ends t allowance answers certificate .outcome) ≢ 7
-  always-enough l e = numbers-enough (le-trans (most-bound numbers ends (first-passed numbers ends t (spent-passed e) .lists)) l) e
+  unfolding query
+  always-enough l =
+      allowance-enough-by _ (runs numbers ends) t allowance answers certificate (first-not-spent numbers ends t) (fit numbers ends t fits)
+      (λ e. le-trans (lists-bound numbers ends (first-passed numbers ends t e .lists)) l)
+
+-- And so it is with weights.
+pub weighted-always-enough : (numbers ends weights : List ℕ) (wanted allowance : ℕ) (answers certificate : List ℕ) → Fits pastBin numbers
+    → 2 * mostNumbers * 21 ≤ allowance → refusedBy (queryWeighted numbers ends weights wanted allowance answers certificate .outcome) ≢ 7
+unfolding queryWeighted
+weighted-always-enough numbers ends weights wanted allowance answers certificate fits l =
+    allowance-enough-by _ (weighted weights (runs numbers ends)) wanted allowance answers certificate (weighted-not-spent numbers ends weights wanted)
+    (weighted-fit numbers ends weights wanted fits)
+    (λ e.
+    let p = weighted-passed numbers ends weights wanted e .lists in
+    let n = weighted-numbers numbers ends weights p in
+    le-trans (numbers-bound (length numbers) (weighted weights (runs numbers ends)) n) (le-trans (most-bound (length numbers) (p .few-numbers)) l))
 
 -- The largest allowance there is, 4294967295, is enough for every input.
 pub largest-enough : (numbers ends : List ℕ) (t : ℕ) (answers certificate : List ℕ) → Fits pastBin numbers

@@ -3,7 +3,6 @@
 use Prim.Native.Nat.{ℕ, zero, suc, _+_, _-_, _*_, _/_, _^_, _≤_, _<_}
 use borrow.Author.Tests.{eq-eqb, ne-eqb, le-ltb, lt-ltb, le-leb, lt-leb, eqb-true, eqb-false, ltb-false, leb-true, leb-false, not-false}
 use lib.Bits.{bitAnd}
-use lib.Count.{ones}
 use lib.Dec.{ltb, leb, eqb}
 use lib.ListN.{length, length-append}
 use mathlib.Core.Bool.{Bool, true, false, _&&_, _||_, not}
@@ -14,16 +13,17 @@ use native.Mathlib.Omega.{arith}
 use Rattle.model.specs.Certificate.{Part, answer, gap, firstOf, lastOf, maskOf, answersOf, encodePart, encode, sizeOf, Reading, unreadable, read, readField, Covers, covered, covers, NamesOnly, TrueGap, TrueAnswer, TruePart, gap-true, answer-true}
 use Rattle.model.specs.Demands.{Fits, Accepts}
 use Rattle.model.specs.Between.{within}
-use Rattle.model.specs.Refusals.{Check, passed, refusal, _then_, refuseIf, firstChecks, chosenChecks, Verdict, valid, invalid, misplaced, namesOther, misnamed, contradicts, anyContradicts, checkPart, counted, atEnd, checkFrom, judged, check, checkChosen}
-use Rattle.model.specs.Runs.{Run, firstBin, pastBin, runs, mask, maskOfAll, bit, names, chosen, mostRuns, maskBits}
+use Rattle.model.specs.Refusals.{Check, passed, refusal, _then_, refuseIf, firstChecks, weightedChecks, chosenChecks, Verdict, valid, invalid, misplaced, namesOther, misnamed, contradicts, anyContradicts, checkPart, counted, atEnd, checkFrom, judged, check, checkChosen, checkWeighted}
+use Rattle.model.specs.Runs.{Run, firstBin, pastBin, runs, weighted, weightOf, mask, maskOfAll, bit, names, chosen, mostRuns, maskBits}
 use Rattle.model.proofs.Encoding.{InRange, read-back, part-size, size-pos, read-field}
 use Rattle.model.proofs.Fewest.{covers-nil, covers-first, covers-order, covers-rest}
 use Rattle.model.proofs.Chosen.{chosen-mem, chosen-ascending}
 use Rattle.model.proofs.Digits.{below-pow}
-use Rattle.model.proofs.FirstChecks.{then-first, then-second, refuse-if, first-passed, chosen-passed, all-labelled, all-length, every-run}
+use Rattle.model.proofs.FirstChecks.{then-first, then-second, refuse-if, first-passed, weighted-passed, chosen-passed, all-labelled, all-length, every-run}
 use Rattle.model.proofs.From.{holds-mem, mem-holds}
-use Rattle.model.proofs.Masks.{label-below, Ascending, ascending, only-below, and-all, and-bit, names-mask, mask-bit, mask-of-all}
+use Rattle.model.proofs.Masks.{Labelled, label-below, Ascending, ascending, only-below, and-all, and-bit, names-mask, mask-bit, mask-of-all}
 use Rattle.model.proofs.Tests.{both, lt-or-le, eq-or-ne, or-false, and-false, true-false}
+use Rattle.model.proofs.Weighted.{weighted-labelled, weighted-length}
 
 -- ---- what the tests say
 
@@ -95,17 +95,17 @@ none-any p (s ∷ rs) h = rw (h s (List·Memᴰ·head refl), none-any p rs (λ r
 passed-true : (rs : List Run) (t : ℕ) (p : Part) → Ascending 0 rs → misnamed rs t p ≡ false → anyContradicts p rs ≡ false → TruePart rs t p
 unfolding misnamed contradicts
 passed-true rs t (answer v m) l e h =
-    let d = or-false (namesOther rs m) (ltb (ones m) t) e in
+    let d = or-false (namesOther rs m) (ltb (weightOf (names m) rs) t) e in
     answer-true (record {
       only = only-others rs m l (d .0);
-      enough = ltb-false (ones m) t (d .1);
+      enough = ltb-false (weightOf (names m) rs) t (d .1);
       has = λ r k n. holds-mem v (r .bins) (not-false _ (and-false _ _ (any-false (answer v m) rs h r k) n));
     })
 passed-true rs t (gap f l m) a e h =
-    let d = or-false (namesOther rs m) (ltb (ones m) (length rs - t + 1)) e in
+    let d = or-false (namesOther rs m) (leb t (weightOf (λ r. not (names m r)) rs)) e in
     gap-true (record {
       only = only-others rs m a (d .0);
-      enough = ltb-false (ones m) (length rs - t + 1) (d .1);
+      unnamed = leb-false t (weightOf (λ r. not (names m r)) rs) (d .1);
       misses = λ r k n x q i j.
           let z = eqb-true (length (within f l (r .bins))) 0 (not-false _ (and-false _ _ (any-false (gap f l m) rs h r k) n)) in
           let w = within-some f l (r .bins) x q i j in
@@ -114,8 +114,8 @@ passed-true rs t (gap f l m) a e h =
 
 true-named : {rs : List Run} {t : ℕ} {p : Part} → Ascending 0 rs → TruePart rs t p → misnamed rs t p ≡ false
 unfolding misnamed
-true-named {rs} {t} a (gap-true {m = m} q) = rw (others-only rs m a (q .only)) (le-ltb (ones m) (length rs - t + 1) (q .enough))
-true-named {rs} {t} a (answer-true {m = m} q) = rw (others-only rs m a (q .only)) (le-ltb (ones m) t (q .enough))
+true-named {rs} {t} a (gap-true {m = m} q) = rw (others-only rs m a (q .only)) (lt-leb t (weightOf (λ r. not (names m r)) rs) (q .unnamed))
+true-named {rs} {t} a (answer-true {m = m} q) = rw (others-only rs m a (q .only)) (le-ltb (weightOf (names m) rs) t (q .enough))
 
 answer-agrees : (rs : List Run) (t v m : ℕ) → TrueAnswer rs t v m → (r : Run) → List·Memᴰ r rs → contradicts (answer v m) r ≡ false
 unfolding contradicts
@@ -351,13 +351,15 @@ judges rs t certificate l n h =
       every-true = λ ps c i. rw i (true-accepted (length (encode ps)) rs t firstBin 0 ps l n (c .covering) (c .each) (omega arith));
     }
 
+-- runs labelled from 0 on, of which there are at most 64
+labels-narrow : (rs : List Run) → Labelled 0 rs → length rs ≤ mostRuns → Narrow rs
+labels-narrow rs l k = record { each = λ r o. let b = label-below rs l r o in omega arith }
+
 pub chosen-narrow : (numbers ends : List ℕ) (m : ℕ) → length ends ≤ mostRuns → Narrow (chosen m (runs numbers ends))
 chosen-narrow numbers ends m k =
     let n = all-length numbers ends in
-    record {
-      each = λ r o.
-          let b = label-below (runs numbers ends) (all-labelled numbers ends) r (chosen-mem m (runs numbers ends) o .0) in omega arith;
-    }
+    let all = labels-narrow (runs numbers ends) (all-labelled numbers ends) (omega arith) in
+    record { each = λ r o. all .each r (chosen-mem m (runs numbers ends) o .0) }
 
 -- Demand 2 for the checker, for lists, a mask and a threshold that pass the first checks: it accepts a certificate if it is true of the chosen runs and only
 -- then.
@@ -377,3 +379,15 @@ accepts numbers ends t certificate h e =
     rw (e, judged)
     (judges (runs numbers ends) t certificate (ascending (all-labelled numbers ends))
     (subst Narrow (every-run numbers ends) (chosen-narrow numbers ends (2 ^ length ends - 1) (first-passed numbers ends t e .few-runs))) h)
+
+-- And for all runs with weights.
+pub accepts-weighted : (numbers ends weights : List ℕ) (wanted : ℕ) (certificate : List ℕ) → Fits 256 certificate → weightedChecks numbers ends weights wanted ≡ passed
+    → Accepts (weighted weights (runs numbers ends)) wanted certificate (checkWeighted numbers ends weights wanted certificate)
+unfolding checkWeighted judged
+accepts-weighted numbers ends weights wanted certificate h e =
+    let l = weighted-labelled weights (all-labelled numbers ends) in
+    let n = all-length numbers ends in
+    let w = weighted-length weights (runs numbers ends) in
+    let k = weighted-passed numbers ends weights wanted e .few-runs in
+    rw (e, judged)
+    (judges (weighted weights (runs numbers ends)) wanted certificate (ascending l) (labels-narrow (weighted weights (runs numbers ends)) l (omega arith)) h)

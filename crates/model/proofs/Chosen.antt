@@ -8,9 +8,11 @@ use mathlib.Core.Bool.{Bool, true, false}
 use mathlib.Core.List.{List, [], _∷_, _++_, map, List·Memᴰ, List·Memᴰ·head, List·Memᴰ·tail, List·Memᴰ·not-nil, List·Memᴰ·cases-cons}
 use mathlib.Core.Logic.{⊎-elim}
 use mathlib.Core.Path.{_≡_, refl, sym, ap, _∙_}
+use native.Mathlib.Nat.{zero-mul}
 use native.Mathlib.Omega.{arith}
 use Rattle.model.specs.Certificate.{NamesOnly}
-use Rattle.model.specs.Runs.{Run, total, one, count, mask, maskOfAll, bit, names, chosen}
+use Rattle.model.specs.Plain.{count}
+use Rattle.model.specs.Runs.{Run, total, one, weightOf, mask, maskOfAll, bit, names, chosen}
 use Rattle.model.specs.Walk.{head, searchIn, searches}
 use Rattle.model.proofs.Bounds.{search-none}
 use Rattle.model.proofs.Masks.{Labelled, label-first, label-rest, Ascending, ascending-nil, ascending-cons, ascending-first, ascending-rest, ascending-from, ascending, below-only, mask-names, ones-names, mask-of-all, all-named}
@@ -99,20 +101,20 @@ chosen-total-le m g (r ∷ rs) =
     (λ (e : names m r ≡ false). rw (chosen-out m r rs e) (omega arith))
     (both (names m r))
 
-one-false : (b : Bool) → b ≡ false → one b ≡ 0
+-- nothing is added where a run does not pass a test
+one-none : (b : Bool) (n : ℕ) → b ≡ false → one b * n ≡ 0
 unfolding one
-one-false b e = rw e
+one-none b n e = rw e (zero-mul n)
 
-pub chosen-count : (m : ℕ) (p : Run → Bool) (rs : List Run) → ((r : Run) → List·Memᴰ r rs → names m r ≡ false → p r ≡ false)
-    → count p (chosen m rs) ≡ count p rs
-unfolding count
-chosen-count m p rs h = chosen-total m (λ r. one (p r)) rs (λ r n e. one-false (p r) (h r n e))
+pub chosen-weight : (m : ℕ) (p : Run → Bool) (rs : List Run) → ((r : Run) → List·Memᴰ r rs → names m r ≡ false → p r ≡ false)
+    → weightOf p (chosen m rs) ≡ weightOf p rs
+unfolding weightOf
+chosen-weight m p rs h = chosen-total m (λ r. one (p r) * r .weight) rs (λ r n e. one-none (p r) (r .weight) (h r n e))
 
 pub chosen-mask : (m : ℕ) (p : Run → Bool) (rs : List Run) → ((r : Run) → List·Memᴰ r rs → names m r ≡ false → p r ≡ false)
     → mask p (chosen m rs) ≡ mask p rs
 unfolding mask
-chosen-mask m p rs h =
-    chosen-total m (λ r. one (p r) * 2 ^ r .label) rs (λ r n e. let z = one-false (p r) (h r n e) in ap (λ x. x * 2 ^ r .label) z ∙ omega arith)
+chosen-mask m p rs h = chosen-total m (λ r. one (p r) * 2 ^ r .label) rs (λ r n e. one-none (p r) (2 ^ r .label) (h r n e))
 
 -- the number of the chosen, and the mask that names them all
 pub chosen-length : (m : ℕ) (rs : List Run) → length (chosen m rs) ≡ count (names m) rs

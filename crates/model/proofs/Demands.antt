@@ -11,8 +11,8 @@ use native.Mathlib.Omega.{arith}
 use Rattle.model.specs.Certificate.{Part, answersOf, encode, TrueCertificate}
 use Rattle.model.specs.Compared.{wholeWalk, partsOf, wholeCertificate, doublingProbe, halvingProbe, probe, doublingsOf, halvingsOf, probesOf, inRun, doublingsIn, halvingsIn, probesIn, digits, boundOf, boundIn, bound}
 use Rattle.model.specs.Demands.{Fits, answersIn, partsIn, bytesIn, doublingsMade, halvingsMade, refusedBy, Exact, Certified, Demand2, Bounded, Demand3}
-use Rattle.model.specs.Refusals.{passed, firstChecks, Room, Ended, cut, cutWalk, over, outcomeOf, query}
-use Rattle.model.specs.Runs.{Run, firstBin, pastBin, runs, total}
+use Rattle.model.specs.Refusals.{Check, passed, firstChecks, weightedChecks, Room, Ended, cut, cutWalk, over, outcomeOf, answeredBy, query, queryWeighted}
+use Rattle.model.specs.Runs.{Run, firstBin, pastBin, runs, weighted, total}
 use Rattle.model.specs.Walk.{Event, walk}
 use Rattle.model.proofs.Bounds.{walk-probes, Owned, owned, sum-owned}
 use Rattle.model.proofs.Events.{both-kinds}
@@ -20,7 +20,7 @@ use Rattle.model.proofs.Count.{total-le}
 use Rattle.model.proofs.Cutting.{cut-whole, cut-parts, cut-few, cut-cost, cut-mem, cut-enough}
 use Rattle.model.proofs.Exact.{exact}
 use Rattle.model.proofs.Fewest.{fewest}
-use Rattle.model.proofs.FirstChecks.{fit}
+use Rattle.model.proofs.FirstChecks.{fit, weighted-fit}
 use Rattle.model.proofs.From.{from-length}
 use Rattle.model.proofs.Truth.{Fit, walk-covers, walk-true}
 use Rattle.model.proofs.Walking.{Walked, walked, at-start}
@@ -30,7 +30,7 @@ pub whole-walked : {rs : List Run} {t : ℕ} → Fit rs t → Walked rs t firstB
 unfolding wholeWalk firstBin pastBin
 whole-walked {rs} {t} g =
     subst (λ (x : List Run). Walked rs t firstBin (walk pastBin t firstBin x)) (at-start firstBin rs (omega arith) (g .rising))
-    (walked rs t (g .rising) (g .some) (g .runs) pastBin firstBin (omega arith) (omega arith))
+    (walked rs t (g .rising) (g .some) (g .met) pastBin firstBin (omega arith) (omega arith))
 
 pub whole-true : {rs : List Run} {t : ℕ} → Fit rs t → TrueCertificate rs t (wholeCertificate t rs)
 unfolding wholeCertificate
@@ -214,34 +214,54 @@ module _ (rs : List Run) (t allowance : ℕ) (answers certificate : List ℕ) wh
       )
       (bounded-walk rs t (record { probes = allowance; answers = length answers; bytes = length certificate }) g ps c)
 
--- a question whose first checks pass is its ended walk
-query-passed : (numbers ends : List ℕ) (t allowance : ℕ) (answers certificate : List ℕ) → firstChecks numbers ends t ≡ passed
-    → query numbers ends t allowance answers certificate
-    ≡ record {
-      outcome = outcomeOf (asked (runs numbers ends) t allowance answers certificate);
-      answers = over (answersOf (partsOf (asked (runs numbers ends) t allowance answers certificate .events))) answers;
-      certificate = over (encode (partsOf (asked (runs numbers ends) t allowance answers certificate .events))) certificate;
-    }
-unfolding query asked
-query-passed numbers ends t allowance answers certificate e = rw (e, query)
+  -- a question whose first checks pass is its ended walk
+  answered-passed : (c : Check) → c ≡ passed
+      → answeredBy c rs t allowance answers certificate
+      ≡ record {
+        outcome = outcomeOf asked;
+        answers = over (answersOf (partsOf (asked .events))) answers;
+        certificate = over (encode (partsOf (asked .events))) certificate;
+      }
+  unfolding answeredBy asked
+  answered-passed c e = rw e
 
+  -- The demands for any question over runs that its first checks make fit.
+  pub demand2-by : (c : Check) → (c ≡ passed → Fit rs t)
+      → Demand2 c rs t (answeredBy c rs t allowance answers certificate .outcome) (answeredBy c rs t allowance answers certificate .answers)
+      (answeredBy c rs t allowance answers certificate .certificate)
+  demand2-by c g = record { for-every = λ e. rw (answered-passed c e) (certified-asked (g e)) }
+
+  pub demand3-by : (c : Check) → (c ≡ passed → Fit rs t)
+      → Demand3 c rs t allowance answers certificate (answeredBy c rs t allowance answers certificate .outcome)
+      (answeredBy c rs t allowance answers certificate .certificate)
+  unfolding asked
+  demand3-by c g = record { for-every = λ e ps d. rw (answered-passed c e) (bounded-asked (g e) ps d) }
+
+-- A question with a threshold, and one with weights and a wanted weight.
 pub demand2 : (numbers ends : List ℕ) (t allowance : ℕ) (answers certificate : List ℕ) → Fits pastBin numbers
-    → Demand2 numbers ends t (query numbers ends t allowance answers certificate .outcome) (query numbers ends t allowance answers certificate .answers)
-    (query numbers ends t allowance answers certificate .certificate)
-demand2 numbers ends t allowance answers certificate h =
-    record {
-      for-every = λ e.
-          rw (query-passed numbers ends t allowance answers certificate e)
-          (certified-asked (runs numbers ends) t allowance answers certificate (fit numbers ends t h e));
-    }
+    → Demand2 (firstChecks numbers ends t) (runs numbers ends) t (query numbers ends t allowance answers certificate .outcome)
+    (query numbers ends t allowance answers certificate .answers) (query numbers ends t allowance answers certificate .certificate)
+unfolding query
+demand2 numbers ends t allowance answers certificate h = demand2-by (runs numbers ends) t allowance answers certificate _ (fit numbers ends t h)
 
 pub demand3 : (numbers ends : List ℕ) (t allowance : ℕ) (answers certificate : List ℕ) → Fits pastBin numbers
-    → Demand3 numbers ends t allowance answers certificate (query numbers ends t allowance answers certificate .outcome)
+    → Demand3 (firstChecks numbers ends t) (runs numbers ends) t allowance answers certificate (query numbers ends t allowance answers certificate .outcome)
     (query numbers ends t allowance answers certificate .certificate)
-unfolding asked
-demand3 numbers ends t allowance answers certificate h =
-    record {
-      for-every = λ e ps c.
-          rw (query-passed numbers ends t allowance answers certificate e)
-          (bounded-asked (runs numbers ends) t allowance answers certificate (fit numbers ends t h e) ps c);
-    }
+unfolding query
+demand3 numbers ends t allowance answers certificate h = demand3-by (runs numbers ends) t allowance answers certificate _ (fit numbers ends t h)
+
+pub weighted-demand2 : (numbers ends weights : List ℕ) (wanted allowance : ℕ) (answers certificate : List ℕ) → Fits pastBin numbers
+    → Demand2 (weightedChecks numbers ends weights wanted) (weighted weights (runs numbers ends)) wanted
+    (queryWeighted numbers ends weights wanted allowance answers certificate .outcome) (queryWeighted numbers ends weights wanted allowance answers certificate .answers)
+    (queryWeighted numbers ends weights wanted allowance answers certificate .certificate)
+unfolding queryWeighted
+weighted-demand2 numbers ends weights wanted allowance answers certificate h =
+    demand2-by (weighted weights (runs numbers ends)) wanted allowance answers certificate _ (weighted-fit numbers ends weights wanted h)
+
+pub weighted-demand3 : (numbers ends weights : List ℕ) (wanted allowance : ℕ) (answers certificate : List ℕ) → Fits pastBin numbers
+    → Demand3 (weightedChecks numbers ends weights wanted) (weighted weights (runs numbers ends)) wanted allowance answers certificate
+    (queryWeighted numbers ends weights wanted allowance answers certificate .outcome)
+    (queryWeighted numbers ends weights wanted allowance answers certificate .certificate)
+unfolding queryWeighted
+weighted-demand3 numbers ends weights wanted allowance answers certificate h =
+    demand3-by (weighted weights (runs numbers ends)) wanted allowance answers certificate _ (weighted-fit numbers ends weights wanted h)

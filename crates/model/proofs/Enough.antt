@@ -6,29 +6,29 @@ use borrow.Author.Tests.{lt-ltb, le-ltb, lt-leb, eq-eqb, ne-eqb, eqb-true}
 use lib.Dec.{ltb, leb, eqb}
 use lib.ListN.{length, drop, length-take}
 use mathlib.Core.Bool.{Bool, true, false}
-use mathlib.Core.List.{List, [], _∷_}
+use mathlib.Core.List.{List, [], _∷_, List·Memᴰ}
 use mathlib.Core.Logic.{_⊎_, inl, inr, ⊎-elim, _≢_}
 use mathlib.Core.Option.{Option, none, some}
-use mathlib.Core.Path.{_≡_, refl, ap}
+use mathlib.Core.Path.{_≡_, refl, sym, ap, _∙_, subst}
 use native.Mathlib.Nat.{le-trans}
 use native.Mathlib.Omega.{arith}
 use Rattle.model.specs.Certificate.{Part, answer, gap, answersOf, encode, sizeOf}
 use Rattle.model.specs.Compared.{wholeWalk, partsOf}
 use Rattle.model.specs.Demands.{Fits, refusedBy}
-use Rattle.model.specs.Refusals.{Check, passed, refusal, _then_, refuseIf, refuseAt, fallsFrom, lastEnd, countCheck, thresholdCheck, listChecks, firstChecks, Room, met, after, cut, cutWalk, refused, outcomeOf, query}
-use Rattle.model.specs.Runs.{Run, firstBin, pastBin, slice, from, runsFrom, runs, total, one, count}
+use Rattle.model.specs.Refusals.{Check, passed, refusal, _then_, refuseIf, refuseAt, fallsFrom, lastEnd, countCheck, weightsCheck, thresholdCheck, listChecks, firstChecks, weightedChecks, Room, met, after, cut, cutWalk, refused, outcomeOf, answeredBy, query, queryWeighted}
+use Rattle.model.specs.Runs.{Run, firstBin, pastBin, slice, from, runsFrom, runs, weightedRun, weighted, total, one}
 use Rattle.model.specs.Walk.{Event, sought, doubled, halved, wrote, headOf, head}
-use Rattle.model.proofs.Count.{total-le, total-add, count-map, count-le}
+use Rattle.model.proofs.Count.{total-le, total-less, total-map, weight-some, weight-witness}
 use Rattle.model.proofs.Cutting.{cut-on, cut-here, encoded}
 use Rattle.model.proofs.Demands.{whole-walked}
 use Rattle.model.proofs.Events.{parts-round}
-use Rattle.model.proofs.FirstChecks.{Listed, first-passed, fit, not-fallen}
+use Rattle.model.proofs.FirstChecks.{Listed, first-passed, weighted-passed, fit, weighted-fit, not-fallen}
 use Rattle.model.specs.Rows.{below, equal}
 use Rattle.model.proofs.From.{from-pass, from-stop, from-nil, from-from, from-length, from-fewer, head-nil, head-cons}
 use Rattle.model.proofs.Heads.{atMost}
 use Rattle.model.proofs.Tests.{lt-or-le, eq-or-ne, one-most}
-use Rattle.model.proofs.Truth.{Fit}
-use Rattle.model.proofs.Walking.{fromRun, at, gapAt, answerAt, Walked, over, stop, pass, hit, hit-here}
+use Rattle.model.proofs.Truth.{Fit, weight-at}
+use Rattle.model.proofs.Walking.{fromRun, at, head-from, gapAt, answerAt, Walked, over, stop, pass, hit, hit-here}
 
 -- ---- numbers left
 
@@ -54,35 +54,45 @@ head-passed v (x ∷ s) b =
     (eq-or-ne x v)))
     (lt-or-le x v)
 
-left-moved : (rs : List Run) (f v : ℕ) → f ≤ v → v < pastBin → left v rs + atMost v (at f rs) ≤ left f rs + equal v (at v rs)
-unfolding left atMost equal count at head fromRun
-left-moved rs f v l b =
-    let k = total-le (λ r. length (from v (r .bins)) + one (leb (headOf (from f (r .bins))) v))
-    (λ r. length (from f (r .bins)) + one (eqb (headOf (from v (r .bins))) v)) rs
-    (λ r m. rw (← from-from f v (r .bins) l) (head-passed v (from f (r .bins)) b)) in
-    let a = total-add (λ r. length (from v (r .bins))) (λ r. one (leb (headOf (from f (r .bins))) v)) rs in
-    let c = total-add (λ r. length (from f (r .bins))) (λ r. one (eqb (headOf (from v (r .bins))) v)) rs in
-    let d = count-map (λ r. leb (headOf (r .bins)) v) (fromRun f) rs in
-    let e = count-map (λ r. eqb (headOf (r .bins)) v) (fromRun v) rs in
-    omega arith
+-- a floor that rises leaves no more numbers, and fewer where a run leaves one behind
+run-left : (f v : ℕ) (s : List ℕ) → f ≤ v → length (from v s) ≤ length (from f s)
+run-left f v s l = rw (← from-from f v s l) (from-length v (from f s))
 
--- a run whose head is below v leaves a number behind on the way to v
-left-falls : (rs : List Run) (f v : ℕ) → f ≤ v → v ≤ pastBin → left v rs + below v (at f rs) ≤ left f rs
-unfolding left below count at head fromRun
-left-falls rs f v l b =
-    let k = total-le (λ r. length (from v (r .bins)) + one (ltb (headOf (from f (r .bins))) v)) (λ r. length (from f (r .bins))) rs
-    (λ r m. from-fewer f v (r .bins) l b) in
-    let a = total-add (λ r. length (from v (r .bins))) (λ r. one (ltb (headOf (from f (r .bins))) v)) rs in
-    let e = count-map (λ r. ltb (headOf (r .bins)) v) (fromRun f) rs in
-    omega arith
+left-mono : (rs : List Run) (f v : ℕ) → f ≤ v → left v rs ≤ left f rs
+unfolding left
+left-mono rs f v l = total-le _ _ rs (λ r m. run-left f v (r .bins) l)
 
-left-answered : (rs : List Run) (v : ℕ) → v < pastBin → left (suc v) rs + equal v (at v rs) ≤ left v rs
-unfolding below equal
-left-answered rs v b =
-    let k = left-falls rs v (suc v) (omega arith) b in
-    let c = count-le (λ r. eqb (head r) v) (λ r. ltb (head r) (suc v)) (at v rs)
-    (λ r m e. let i = eqb-true (head r) v e in lt-ltb (head r) (suc v) (omega arith)) in
-    omega arith
+left-less : (rs : List Run) (f v : ℕ) → f ≤ v → (r : Run) → List·Memᴰ r rs → length (from v (r .bins)) < length (from f (r .bins)) → left v rs < left f rs
+unfolding left
+left-less rs f v l r m k = total-less _ _ rs (λ s n. run-left f v (s .bins) l) r m k
+
+-- Where the runs whose heads are not above v weigh more than those that then have v for their head, some run leaves a number behind on the way to v.
+left-moved : (rs : List Run) (f v : ℕ) → f ≤ v → v < pastBin → equal v (at v rs) < atMost v (at f rs) → left v rs < left f rs
+unfolding atMost equal one
+left-moved rs f v l b h =
+    let p = weight-at (λ r. eqb (head r) v) v rs in
+    let q = weight-at (λ r. leb (head r) v) f rs in
+    let w = weight-witness (λ r. eqb (head (fromRun v r)) v) (λ r. leb (head (fromRun f r)) v) rs (omega arith) in
+    let r = w .0 in
+    let k : length (from v (r .bins)) + one (leb (headOf (from f (r .bins))) v) ≤ length (from f (r .bins)) + one (eqb (headOf (from v (r .bins))) v) =
+    subst (λ s. length s + one (leb (headOf (from f (r .bins))) v) ≤ length (from f (r .bins)) + one (eqb (headOf s) v)) (from-from f v (r .bins) l)
+    (head-passed v (from f (r .bins)) b) in
+    let i = ap one (ap (λ x. leb x v) (sym (head-from f r)) ∙ w .2) in
+    let j = ap one (ap (λ x. eqb x v) (sym (head-from v r)) ∙ w .3) in
+    left-less rs f v l r (w .1) (omega arith)
+
+-- past an answer some run leaves it behind
+left-answered : (rs : List Run) (v : ℕ) → v < pastBin → 0 < equal v (at v rs) → left (suc v) rs < left v rs
+unfolding equal one
+left-answered rs v b h =
+    let p = weight-at (λ r. eqb (head r) v) v rs in
+    let w = weight-some (λ r. eqb (head (fromRun v r)) v) rs (omega arith) in
+    let r = w .0 in
+    let e = eqb-true _ v (w .2) in
+    let s = head-from v r in
+    let k = from-fewer v (suc v) (r .bins) (omega arith) b in
+    let i = ap one (lt-ltb (headOf (from v (r .bins))) (suc v) (omega arith)) in
+    left-less rs v (suc v) (omega arith) r (w .1) (omega arith)
 
 -- ---- what a walk writes
 
@@ -104,18 +114,18 @@ walk-needs p (over e) = record { answers = omega arith; bytes = omega arith }
 walk-needs p (stop l h) = record { answers = omega arith; bytes = omega arith }
 walk-needs {rs} {f = f} p (pass {v = v} {es = es} l a q w) =
     let k = walk-needs p w in
-    let m = left-moved rs f v (omega arith) (a .bin) in
     let n = a .enough in
+    let m = left-moved rs f v (omega arith) (a .bin) (omega arith) in
     needs-parts _ (parts-round (gapAt rs f v (v - 1)) v (at f rs) es) (omega (arith, k .answers)) (omega (arith, k .bytes))
 walk-needs {rs} {f = f} p (hit {v = v} {es = es} l a q w) =
     let k = walk-needs p w in
     let b = a .bin in
-    let m = left-answered rs v b in
-    let n = left-falls rs f v (omega arith) (omega arith) in
+    let m = left-answered rs v b (omega arith) in
+    let n = left-mono rs f v (omega arith) in
     needs-parts _ (parts-round (gapAt rs f v (v - 1)) v (at f rs) (wrote (answerAt rs v) ∷ es)) (omega (arith, k .answers)) (omega (arith, k .bytes))
 walk-needs {rs} {f = f} p (hit-here {es = es} a q w) =
     let k = walk-needs p w in
-    let m = left-answered rs f (a .bin) in
+    let m = left-answered rs f (a .bin) (omega arith) in
     record { answers = omega (arith, k .answers); bytes = omega (arith, k .bytes) }
 
 -- ---- the runs have no more numbers than the row
@@ -200,48 +210,76 @@ ended-roomy es (suc r) n p a b d h k o =
     let e : suc r ≡ n = cc in
     ⊎-elim (λ (i : suc r ≡ 0). absurd (omega arith)) (λ (i : suc r ≡ 7). omega arith) k
 
--- ---- the first checks refuse by 1 to 4
+-- ---- the first checks refuse by certain numbers
 
-record Door (c : Check) : Type 0 where
-  numbers : (n p : ℕ) → c ≡ refusal n p → (1 ≤ n) × (n ≤ 4)
+record Door (by : ℕ → Type 0) (c : Check) : Type 0 where
+  numbers : (n p : ℕ) → c ≡ refusal n p → by n
 
-door-then : (a b : Check) → Door a → Door b → Door (a then b)
-unfolding _then_
-door-then passed b g h = h
-door-then (refusal n p) b g h = g
+module _ (by : ℕ → Type 0) where
+  door-then : (a b : Check) → Door by a → Door by b → Door by (a then b)
+  unfolding _then_
+  door-then passed b g h = h
+  door-then (refusal n p) b g h = g
 
-door-if : (b : Bool) (n p : ℕ) → 1 ≤ n → n ≤ 4 → Door (refuseIf b n p)
-unfolding refuseIf
-door-if true n p h k = record { numbers = λ m q e. let i : n ≡ m = cc in (omega arith, omega arith) }
-door-if false n p h k = record { numbers = λ m q e. absurd (let z : _≡_ {A = ℕ} 0 1 = cc in omega arith) }
+  door-if : (b : Bool) (n p : ℕ) → by n → Door by (refuseIf b n p)
+  unfolding refuseIf
+  door-if true n p h = record { numbers = λ m q e. let i : n ≡ m = cc in subst by i h }
+  door-if false n p h = record { numbers = λ m q e. absurd (let z : _≡_ {A = ℕ} 0 1 = cc in omega arith) }
 
-door-at : (n : ℕ) (o : Option ℕ) → 1 ≤ n → n ≤ 4 → Door (refuseAt n o)
-unfolding refuseAt
-door-at n (some p) h k = record { numbers = λ m q e. let i : n ≡ m = cc in (omega arith, omega arith) }
-door-at n none h k = record { numbers = λ m q e. absurd (let z : _≡_ {A = ℕ} 0 1 = cc in omega arith) }
+  door-at : (n : ℕ) (o : Option ℕ) → by n → Door by (refuseAt n o)
+  unfolding refuseAt
+  door-at n (some p) h = record { numbers = λ m q e. let i : n ≡ m = cc in subst by i h }
+  door-at n none h = record { numbers = λ m q e. absurd (let z : _≡_ {A = ℕ} 0 1 = cc in omega arith) }
 
-door : (numbers ends : List ℕ) (t : ℕ) → Door (firstChecks numbers ends t)
-unfolding firstChecks countCheck thresholdCheck listChecks
-door numbers ends t =
-    door-then _ _ (door-if _ 1 _ (omega arith) (omega arith))
-    (door-then _ _ (door-if _ 2 _ (omega arith) (omega arith))
-    (door-then _ _ (door-at 3 _ (omega arith) (omega arith))
-    (door-then _ _ (door-if _ 3 _ (omega arith) (omega arith)) (door-at 4 _ (omega arith) (omega arith)))))
+  door-lists : (numbers ends : List ℕ) → by 3 → by 4 → Door by (listChecks numbers ends)
+  unfolding listChecks
+  door-lists numbers ends h k = door-then _ _ (door-at 3 _ h) (door-then _ _ (door-if _ 3 _ h) (door-at 4 _ k))
 
--- A question passes the first checks or is refused by 1 to 4.
+  door : (numbers ends : List ℕ) (t : ℕ) → by 1 → by 2 → by 3 → by 4 → Door by (firstChecks numbers ends t)
+  unfolding firstChecks countCheck thresholdCheck
+  door numbers ends t a b c d = door-then _ _ (door-if _ 1 _ a) (door-then _ _ (door-if _ 2 _ b) (door-lists numbers ends c d))
+
+  door-weighted : (numbers ends weights : List ℕ) (wanted : ℕ) → by 1 → by 17 → by 2 → by 3 → by 4 → Door by (weightedChecks numbers ends weights wanted)
+  unfolding weightedChecks countCheck weightsCheck thresholdCheck
+  door-weighted numbers ends weights wanted a w b c d =
+      door-then _ _ (door-if _ 1 _ a)
+      (door-then _ _ (door-then _ _ (door-if _ 17 _ w) (door-at 17 _ w)) (door-then _ _ (door-if _ 2 _ b) (door-lists numbers ends c d)))
+
+-- A question passes its first checks or is refused by one of their numbers.
+refused-at-door : (by : ℕ → Type 0) (c : Check) (rs : List Run) (t allowance : ℕ) (answers certificate : List ℕ) → Door by c
+    → (c ≡ passed) ⊎ (by (refusedBy (answeredBy c rs t allowance answers certificate .outcome)))
+unfolding answeredBy refusedBy
+refused-at-door by passed rs t allowance answers certificate h = inl refl
+refused-at-door by (refusal n p) rs t allowance answers certificate h = inr (h .numbers n p refl)
+
+-- One with a threshold passes the first checks or is refused by 1 to 4.
 pub passed-or-refused : (numbers ends : List ℕ) (t allowance : ℕ) (answers certificate : List ℕ)
     → (firstChecks numbers ends t ≡ passed)
     ⊎ ((1 ≤ refusedBy (query numbers ends t allowance answers certificate .outcome))
     × (refusedBy (query numbers ends t allowance answers certificate .outcome) ≤ 4))
-unfolding query refusedBy
-passed-or-refused numbers ends t allowance answers certificate = go (firstChecks numbers ends t) refl
-  where
-    go : (c : Check) → firstChecks numbers ends t ≡ c
-        → (firstChecks numbers ends t ≡ passed)
-        ⊎ ((1 ≤ refusedBy (query numbers ends t allowance answers certificate .outcome))
-        × (refusedBy (query numbers ends t allowance answers certificate .outcome) ≤ 4))
-    go passed e = inl e
-    go (refusal n p) e = inr (rw (e, query) (door numbers ends t .numbers n p e))
+unfolding query
+passed-or-refused numbers ends t allowance answers certificate =
+    let d = door (λ n. (1 ≤ n) × (n ≤ 4)) numbers ends t (omega arith, omega arith) (omega arith, omega arith) (omega arith, omega arith) (omega arith, omega arith) in
+    refused-at-door _ _ (runs numbers ends) t allowance answers certificate d
+
+-- The first checks do not refuse by 7, with a threshold or with weights.
+pub NotSpent : Check → Type 0
+NotSpent c = Door (λ n. n ≢ 7) c
+
+pub first-not-spent : (numbers ends : List ℕ) (t : ℕ) → NotSpent (firstChecks numbers ends t)
+unfolding NotSpent
+first-not-spent numbers ends t = door _ numbers ends t (omega arith) (omega arith) (omega arith) (omega arith)
+
+pub weighted-not-spent : (numbers ends weights : List ℕ) (wanted : ℕ) → NotSpent (weightedChecks numbers ends weights wanted)
+unfolding NotSpent
+weighted-not-spent numbers ends weights wanted = door-weighted _ numbers ends weights wanted (omega arith) (omega arith) (omega arith) (omega arith) (omega arith)
+
+-- So only a question that passes them is refused as 7.
+pub spent-passed : (c : Check) (rs : List Run) (t allowance : ℕ) (answers certificate : List ℕ) → NotSpent c
+    → refusedBy (answeredBy c rs t allowance answers certificate .outcome) ≡ 7 → c ≡ passed
+unfolding NotSpent
+spent-passed c rs t allowance answers certificate h e =
+    ⊎-elim (λ i. i) (λ k. absurd (k e)) (refused-at-door _ c rs t allowance answers certificate h)
 
 -- ---- the law
 
@@ -253,30 +291,49 @@ listed-numbers numbers ends p =
     let z = p .ends-last in
     omega arith
 
-module _ (numbers ends : List ℕ) (t allowance : ℕ) (answers certificate : List ℕ) (fits : Fits pastBin numbers)
+-- the same with weights: these add no numbers
+pub weighted-numbers : (numbers ends weights : List ℕ) → Listed numbers ends → total (λ r. length (r .bins)) (weighted weights (runs numbers ends)) ≤ length numbers
+unfolding weighted weightedRun
+weighted-numbers numbers ends weights p =
+    let n = listed-numbers numbers ends p in
+    let e = total-map (λ r. length (r .bins)) (weightedRun weights) (runs numbers ends) in
+    omega arith
+
+-- A question over runs of at most n numbers with room for n answers and 34 × n + 19 bytes: where it passes its first checks it is accepted or refused as 7.
+room-enough-by : (c : Check) (rs : List Run) (t n allowance : ℕ) (answers certificate : List ℕ) → n ≤ length answers → 34 * n + 19 ≤ length certificate
+    → Fit rs t → total (λ r. length (r .bins)) rs ≤ n → c ≡ passed → (x p a b d h : ℕ)
+    → answeredBy c rs t allowance answers certificate .outcome ≡ refused x p a b d h → x ≡ 7
+unfolding answeredBy cutWalk
+room-enough-by c rs t n allowance answers certificate room bytes g l e x p a b d h o =
+    let k = walk-small g n l in
+    let w = walk-room (record { probes = allowance; answers = length answers; bytes = length certificate }) (wholeWalk t rs) (le-trans (k .0) room) (le-trans (k .1) bytes) in
+    let ended = cutWalk t rs allowance (length answers) (length certificate) in
+    ended-roomy (ended .events) (ended .refused) x p a b d h w (rw e at o)
+
+module _ (numbers ends : List ℕ) (allowance : ℕ) (answers certificate : List ℕ) (fits : Fits pastBin numbers)
     (room : length numbers ≤ length answers) (bytes : 34 * length numbers + 19 ≤ length certificate) where
-  walk-roomy : firstChecks numbers ends t ≡ passed
-      → Roomy (record { probes = allowance; answers = length answers; bytes = length certificate }) (wholeWalk t (runs numbers ends))
-  unfolding Roomy
-  walk-roomy e =
-      let k = walk-small (fit numbers ends t fits e) (length numbers) (listed-numbers numbers ends (first-passed numbers ends t e .lists)) in
-      walk-room _ (wholeWalk t (runs numbers ends)) (le-trans (k .0) room) (le-trans (k .1) bytes)
-
   -- A question that passes the first checks is accepted or refused as 7: refusals 5 and 6 never occur.
-  pub room-enough : firstChecks numbers ends t ≡ passed → (n p a b d h : ℕ)
+  pub room-enough : (t : ℕ) → firstChecks numbers ends t ≡ passed → (n p a b d h : ℕ)
       → query numbers ends t allowance answers certificate .outcome ≡ refused n p a b d h → n ≡ 7
-  unfolding query cutWalk Roomy
-  room-enough e n p a b d h o =
-      let ended = cutWalk t (runs numbers ends) allowance (length answers) (length certificate) in
-      ended-roomy (ended .events) (ended .refused) n p a b d h (walk-roomy e) (rw (e, query) at o)
+  unfolding query
+  room-enough t e =
+      room-enough-by _ (runs numbers ends) t (length numbers) allowance answers certificate room bytes (fit numbers ends t fits e)
+      (listed-numbers numbers ends (first-passed numbers ends t e .lists)) e
 
-  -- Of any question that is refused the number is 1, 2, 3, 4 or 7.
-  pub refused-numbers : (n p a b d h : ℕ) → query numbers ends t allowance answers certificate .outcome ≡ refused n p a b d h
+  pub weighted-room-enough : (weights : List ℕ) (wanted : ℕ) → weightedChecks numbers ends weights wanted ≡ passed → (n p a b d h : ℕ)
+      → queryWeighted numbers ends weights wanted allowance answers certificate .outcome ≡ refused n p a b d h → n ≡ 7
+  unfolding queryWeighted
+  weighted-room-enough weights wanted e =
+      room-enough-by _ (weighted weights (runs numbers ends)) wanted (length numbers) allowance answers certificate room bytes
+      (weighted-fit numbers ends weights wanted fits e) (weighted-numbers numbers ends weights (weighted-passed numbers ends weights wanted e .lists)) e
+
+  -- Of any question with a threshold that is refused the number is 1, 2, 3, 4 or 7.
+  pub refused-numbers : (t n p a b d h : ℕ) → query numbers ends t allowance answers certificate .outcome ≡ refused n p a b d h
       → ((1 ≤ n) × (n ≤ 4)) ⊎ (n ≡ 7)
   unfolding refusedBy
-  refused-numbers n p a b d h o =
+  refused-numbers t n p a b d h o =
       let i = ap refusedBy o in
       ⊎-elim
-      (λ e. inr (room-enough e n p a b d h o))
+      (λ e. inr (room-enough t e n p a b d h o))
       (λ k. inl (omega (arith, k .0), omega (arith, k .1)))
       (passed-or-refused numbers ends t allowance answers certificate)

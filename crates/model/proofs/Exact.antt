@@ -1,4 +1,4 @@
--- Exactness: in any true certificate a bin is an answer exactly when at least t runs hold it, and the answers rise. Assumes nothing.
+-- Exactness: in any true certificate a bin is an answer exactly when the runs that hold it weigh at least t, and the answers rise. Assumes nothing.
 use Prim.Native.Nat.{ℕ, suc, _-_, _≤_, _<_}
 use borrow.Author.Tests.{lt-ltb}
 use mathlib.Core.Bool.{true, false}
@@ -9,23 +9,23 @@ use mathlib.Core.Path.{_≡_, refl}
 use native.Mathlib.Omega.{arith}
 use Rattle.model.specs.Certificate.{Part, answer, gap, firstOf, lastOf, answersOf, Covers, TrueGap, TrueAnswer, TruePart, gap-true, answer-true, TrueCertificate}
 use Rattle.model.specs.Demands.{Exact}
-use Rattle.model.specs.Runs.{Run, firstBin, pastBin, unrisenAfter, unrisen, holds, count, names}
-use Rattle.model.proofs.Count.{count-disjoint, count-le, count-some}
-use Rattle.model.proofs.Fewest.{covers-nil, covers-first, covers-order, covers-rest, gap-names, answer-names}
+use Rattle.model.specs.Runs.{Run, firstBin, pastBin, unrisenAfter, unrisen, holds, weightOf, names}
+use Rattle.model.proofs.Count.{weight-disjoint, weight-le, weight-some}
+use Rattle.model.proofs.Fewest.{covers-nil, covers-first, covers-order, covers-rest, gap-names}
 use Rattle.model.proofs.From.{holds-mem, mem-holds, rise-least, rise-bin}
 use Rattle.model.proofs.Tests.{both, lt-or-le}
 use Rattle.model.proofs.Truth.{Fit}
 
--- how many runs hold a bin
+-- what the runs that hold a bin weigh
 unfoldable pub held : ℕ → List Run → ℕ
-held x rs = count (λ r. holds x (r .bins)) rs
+held x rs = weightOf (λ r. holds x (r .bins)) rs
 
--- a bin in a true gap is held by fewer than t runs
-gap-few : {rs : List Run} {t f l m : ℕ} (x : ℕ) → Fit rs t → TrueGap rs t f l m → f ≤ x → x ≤ l → held x rs < t
+-- the runs that hold a bin in a true gap weigh less than t
+gap-few : {rs : List Run} {t f l m : ℕ} (x : ℕ) → TrueGap rs t f l m → f ≤ x → x ≤ l → held x rs < t
 unfolding held
-gap-few {rs} {m = m} x g p i j =
-    let n = gap-names g p in
-    let d = count-disjoint (λ r. holds x (r .bins)) (names m) rs (λ r k h. unnamed r k h) in
+gap-few {rs} {m = m} x p i j =
+    let n = gap-names p in
+    let d = weight-disjoint (λ r. holds x (r .bins)) (names m) rs (λ r k h. unnamed r k h) in
     omega arith
   where
     unnamed : (r : Run) → List·Memᴰ r rs → holds x (r .bins) ≡ true → names m r ≡ false
@@ -35,14 +35,14 @@ gap-few {rs} {m = m} x g p i j =
         (λ (y : names m r ≡ false). y)
         (both (names m r))
 
-answer-held : {rs : List Run} {t v m : ℕ} → Fit rs t → TrueAnswer rs t v m → t ≤ held v rs
+answer-held : {rs : List Run} {t v m : ℕ} → TrueAnswer rs t v m → t ≤ held v rs
 unfolding held
-answer-held {rs} {v = v} {m = m} g p =
-    let n = answer-names g p in
-    let c = count-le (names m) (λ r. holds v (r .bins)) rs (λ r k h. mem-holds v (r .bins) (p .has r k h)) in
+answer-held {rs} {v = v} {m = m} p =
+    let n = p .enough in
+    let c = weight-le (names m) (λ r. holds v (r .bins)) rs (λ r k h. mem-holds v (r .bins) (p .has r k h)) in
     omega arith
 
--- an answer is held by t runs
+-- the runs that hold an answer weigh t
 answers-held : {rs : List Run} {t : ℕ} → Fit rs t → (ps : List Part) → ((p : Part) → List·Memᴰ p ps → TruePart rs t p) → (x : ℕ)
     → List·Memᴰ x (answersOf ps) → t ≤ held x rs
 unfolding answersOf
@@ -55,13 +55,13 @@ answers-held {rs} {t} g (answer v n ∷ ps) h x m =
   where
     inner : {p : Part} → TruePart rs t p → p ≡ answer v n → t ≤ held v rs
     inner (gap-true q) e = absurd (let z : _≡_ {A = ℕ} 0 1 = cc in omega arith)
-    inner (answer-true {v = u} {m = w} q) e = let i : u ≡ v = cc in rw (← i) (answer-held g q)
+    inner (answer-true {v = u} {m = w} q) e = let i : u ≡ v = cc in rw (← i) (answer-held q)
 
     of-part : TruePart rs t (answer v n) → t ≤ held v rs
     of-part q = inner q refl
 answers-held g (gap f l n ∷ ps) h x m = answers-held g ps (λ q k. h q (List·Memᴰ·tail k)) x m
 
--- a bin that t runs hold is an answer
+-- a bin held by runs that weigh t is an answer
 tail-answers : (p : Part) (ps : List Part) (x : ℕ) → List·Memᴰ x (answersOf ps) → List·Memᴰ x (answersOf (p ∷ ps))
 unfolding answersOf
 tail-answers (answer v n) ps x m = List·Memᴰ·tail m
@@ -70,7 +70,7 @@ tail-answers (gap f l n) ps x m = m
 here-answers : {rs : List Run} {t : ℕ} {p : Part} (ps : List Part) (x : ℕ) → Fit rs t → TruePart rs t p → firstOf p ≤ x → x ≤ lastOf p → t ≤ held x rs
     → List·Memᴰ x (answersOf (p ∷ ps))
 unfolding answersOf firstOf lastOf
-here-answers ps x g (gap-true q) i j h = let n = gap-few x g q i j in absurd (omega arith)
+here-answers ps x g (gap-true q) i j h = let n = gap-few x q i j in absurd (omega arith)
 here-answers ps x g (answer-true {v = v} q) i j h = let e : x ≡ v = omega arith in List·Memᴰ·head e
 
 held-answers : {rs : List Run} {t : ℕ} → Fit rs t → (b : ℕ) (ps : List Part) → Covers b ps → ((p : Part) → List·Memᴰ p ps → TruePart rs t p) → (x : ℕ)
@@ -111,7 +111,7 @@ exact {rs} {t} {ps} g c =
         answers-held g ps (c .each) x,
         λ h.
             let p = g .some in
-            let s = count-some (λ r. holds x (r .bins)) rs (omega arith) in
+            let s = weight-some (λ r. holds x (r .bins)) rs (omega arith) in
             let m = holds-mem x (s .0 .bins) (s .2) in
             let r = g .rising .each (s .0) (s .1) in
             held-answers g firstBin ps (c .covering) (c .each) x (rise-least r m) (rise-bin r m) h,

@@ -1,27 +1,26 @@
 -- Fewest parts. Where another true certificate has covered up to g, not past the walk's floor f, its next part ends not past the walk's: a gap
--- that started at or below f and reached v would name a run with a number from f to v, since at least t runs have one there and fewer than
--- t runs are not named. So the walk's parts are no more than the other's. Assumes nothing.
+-- that started at or below f and reached v would name a run with a number from f to v, since runs that weigh t have one there and those
+-- that are not named weigh less. So the walk's parts are no more than the other's. Assumes nothing.
 use Prim.Native.Nat.{ℕ, suc, _+_, _-_, _≤_, _<_}
 use borrow.Author.Tests.{leb-true, eqb-true, le-leb}
 use lib.Dec.{leb, eqb}
 use lib.ListN.{length}
-use mathlib.Core.Bool.{true, false}
+use mathlib.Core.Bool.{true, false, not}
 use mathlib.Core.List.{List, [], _∷_, List·Memᴰ, List·Memᴰ·head, List·Memᴰ·tail}
 use mathlib.Core.Logic.{⊎-elim}
 use mathlib.Core.Path.{_≡_, refl}
 use native.Mathlib.Omega.{arith}
 use Rattle.model.specs.Certificate.{Part, firstOf, lastOf, Covers, covered, covers, TrueGap, TrueAnswer, TruePart, gap-true, answer-true}
 use Rattle.model.specs.Compared.{partsOf}
-use Rattle.model.specs.Runs.{Run, lastBin, pastBin, from, count, names}
+use Rattle.model.specs.Runs.{Run, lastBin, pastBin, from, weightOf, weightOfAll, names}
 use Rattle.model.specs.Walk.{Event, head, headOf, wrote}
-use Rattle.model.proofs.Count.{count-disjoint, count-map, count-le}
+use Rattle.model.proofs.Count.{weight-disjoint, weight-not, weight-le}
 use Rattle.model.proofs.Events.{parts-wrote, parts-nil, parts-round}
 use Rattle.model.specs.Rows.{equal}
 use Rattle.model.proofs.From.{rise-from, from-mem, head-mem, head-least}
 use Rattle.model.proofs.Heads.{atMost}
-use Rattle.model.proofs.Masks.{ones-names}
 use Rattle.model.proofs.Tests.{both, lt-or-le}
-use Rattle.model.proofs.Truth.{Fit}
+use Rattle.model.proofs.Truth.{Fit, weight-at}
 use Rattle.model.proofs.Walking.{fromRun, at, head-from, gapAt, answerAt, Walked, over, stop, pass, hit, hit-here}
 
 pub covers-nil : {b : ℕ} → Covers b [] → b ≡ pastBin
@@ -36,30 +35,23 @@ covers-order (covers e l c) = l
 pub covers-rest : {b : ℕ} {p : Part} {ps : List Part} → Covers b (p ∷ ps) → Covers (suc (lastOf p)) ps
 covers-rest (covers e l c) = c
 
--- the runs that a true gap names are at least k − t + 1
-pub gap-names : {rs : List Run} {t f l m : ℕ} → Fit rs t → TrueGap rs t f l m → length rs < t + count (names m) rs
-gap-names {rs} {m = m} g p =
-    let e = ones-names m rs (g .labels) (p .only) in
-    let n = p .enough in
-    let k = g .runs in
+-- what the runs that a true gap names weigh: all but less than t
+pub gap-names : {rs : List Run} {t f l m : ℕ} → TrueGap rs t f l m → weightOfAll rs < t + weightOf (names m) rs
+gap-names {rs} {m = m} p =
+    let e = weight-not (names m) (λ r. not (names m r)) rs (λ r k. refl) in
+    let n = p .unnamed in
     omega arith
 
-pub answer-names : {rs : List Run} {t v m : ℕ} → Fit rs t → TrueAnswer rs t v m → t ≤ count (names m) rs
-answer-names {rs} {m = m} g p =
-    let e = ones-names m rs (g .labels) (p .only) in
-    let n = p .enough in
-    omega arith
-
--- no gap may reach from at or below f to v where at least t runs have a number from f to v
+-- no gap may reach from at or below f to v where runs that weigh at least t have a number from f to v
 gap-ends : {rs : List Run} {t a l m : ℕ} (f v : ℕ) → Fit rs t → TrueGap rs t a l m → a ≤ f → f ≤ v → v < pastBin → t ≤ atMost v (at f rs) → l < v
 unfolding atMost at
 gap-ends {rs} {t} {a} {l} {m} f v g p i j b e =
     ⊎-elim
     (λ (q : l < v). q)
     (λ (q : v ≤ l).
-    let n = gap-names g p in
-    let c = count-map (λ r. leb (head r) v) (fromRun f) rs in
-    let d = count-disjoint (λ r. leb (head (fromRun f r)) v) (names m) rs (λ r k h. unnamed r k h q) in
+    let n = gap-names p in
+    let c = weight-at (λ r. leb (head r) v) f rs in
+    let d = weight-disjoint (λ r. leb (head (fromRun f r)) v) (names m) rs (λ r k h. unnamed r k h q) in
     absurd (omega arith))
     (lt-or-le l v)
   where
@@ -78,7 +70,7 @@ gap-ends {rs} {t} {a} {l} {m} f v g p i j b e =
 enough-here : (rs : List Run) (v t : ℕ) → t ≤ equal v (at v rs) → t ≤ atMost v (at v rs)
 unfolding equal atMost
 enough-here rs v t h =
-    let i = count-le (λ r. eqb (head r) v) (λ r. leb (head r) v) (at v rs) (λ r m e. let j = eqb-true (head r) v e in le-leb (head r) v (omega arith)) in
+    let i = weight-le (λ r. eqb (head r) v) (λ r. leb (head r) v) (at v rs) (λ r m e. let j = eqb-true (head r) v e in le-leb (head r) v (omega arith)) in
     omega arith
 
 -- So a true part that starts at or below f does not end past v, and not at v where f is below v.

@@ -15,15 +15,17 @@ use mathlib.Core.Path.{_≡_, refl, sym, ap, _∙_, subst}
 use native.Mathlib.Nat.{div-eq-of-lt, div-lt-iff-lt-mul, one-mul}
 use native.Mathlib.Omega.{arith}
 use Rattle.model.specs.Demands.{Fits}
-use Rattle.model.specs.Refusals.{Check, passed, refusal, _then_, refuseIf, refuseAt, fallsFrom, lastEnd, unrisenIn, countCheck, thresholdCheck, listChecks, maskCheck, firstChecks, chosenChecks}
-use Rattle.model.specs.Runs.{firstBin, pastBin, slice, from, runsFrom, runs, chosen, unrisenAfter, unrisenRun, mostNumbers, mostRuns}
+use Rattle.model.specs.Refusals.{Check, passed, refusal, _then_, refuseIf, refuseAt, fallsFrom, lastEnd, unrisenIn, countCheck, misweighed, weightsCheck, thresholdCheck, sumOfWeights, listChecks, maskCheck, firstChecks, weightedChecks, chosenChecks}
+use Rattle.model.specs.Runs.{firstBin, pastBin, slice, from, runsFrom, runs, weighted, weightOfAll, chosen, unrisenAfter, unrisenRun, mostNumbers, mostRuns}
 use Rattle.model.specs.Rows.{Rise, rise-nil, rise-cons, Ordered, ordered-nil, ordered-cons}
 use Rattle.model.proofs.From.{from-pass, from-stop, from-nil}
 use Rattle.model.proofs.Masks.{Labelled, labelled-nil, labelled-cons, ascending}
 use Rattle.model.proofs.Chosen.{chosen-ascending, chosen-rising, chosen-all, ones-chosen}
+use Rattle.model.proofs.Plain.{all-plain, chosen-plain, plain-all}
 use Rattle.model.proofs.Tests.{lt-or-le, or-false}
 use Rattle.model.proofs.Truth.{Fit}
 use Rattle.model.proofs.Walking.{Rising}
+use Rattle.model.proofs.Weighted.{weighted-ascending, weighted-rising, weighted-sum}
 use Rattle.model.proofs.Zeros.{first-is, zero-unchecked, bin-checked}
 
 -- ---- checks in order
@@ -143,7 +145,7 @@ all-risen i a numbers (e ∷ ends) h f =
     record {
       each = λ r m.
           ⊎-elim
-          (λ (q : r ≡ record { label = i; bins = from firstBin (slice numbers a e) }). rw q s)
+          (λ (q : r ≡ record { label = i; weight = 1; bins = from firstBin (slice numbers a e) }). rw q s)
           (λ k. others .each r k)
           (List·Memᴰ·cases-cons m);
     }
@@ -249,6 +251,37 @@ first-passed numbers ends t e =
     let h = threshold-passed (length ends) t t (then-first _ _ e₂) in
     record { some-runs = c .0; few-runs = c .1; threshold = h .0; met = h .1; lists = lists-passed numbers ends (then-second _ _ e₂) }
 
+pub weights-passed : (k : ℕ) (weights : List ℕ) → weightsCheck k weights ≡ passed → (length weights ≡ k) × (misweighed 0 weights ≡ none)
+unfolding weightsCheck
+weights-passed k weights e =
+    (eqb-not (length weights) k (refuse-if _ 17 k (then-first _ _ e)), refuse-at 17 (misweighed 0 weights) (then-second _ _ e))
+
+-- The same with weights and a wanted weight.
+pub record WeightedPassed (numbers ends weights : List ℕ) (wanted : ℕ) : Type 0 where
+  pub some-runs : 0 < length ends
+  pub few-runs : length ends ≤ mostRuns
+  pub row : length weights ≡ length ends
+  pub threshold : 0 < wanted
+  pub met : wanted ≤ sumOfWeights weights
+  pub lists : Listed numbers ends
+
+pub weighted-passed : (numbers ends weights : List ℕ) (wanted : ℕ) → weightedChecks numbers ends weights wanted ≡ passed → WeightedPassed numbers ends weights wanted
+unfolding weightedChecks
+weighted-passed numbers ends weights wanted e =
+    let c = count-passed ends (then-first _ _ e) in
+    let e₂ = then-second _ _ e in
+    let w = weights-passed (length ends) weights (then-first _ _ e₂) in
+    let e₃ = then-second _ _ e₂ in
+    let h = threshold-passed (sumOfWeights weights) wanted wanted (then-first _ _ e₃) in
+    record {
+      some-runs = c .0;
+      few-runs = c .1;
+      row = w .0;
+      threshold = h .0;
+      met = h .1;
+      lists = lists-passed numbers ends (then-second _ _ e₃);
+    }
+
 -- The same with a mask that chooses runs.
 pub record ChosenPassed (numbers ends : List ℕ) (m t : ℕ) : Type 0 where
   pub some-runs : 0 < length ends
@@ -307,18 +340,23 @@ pub all-length : (numbers ends : List ℕ) → length (runs numbers ends) ≡ le
 unfolding runs
 all-length numbers ends = runs-length 0 0 numbers ends
 
+-- what the chosen runs weigh where no weights are given: as many as are chosen
+pub chosen-weighs : (numbers ends : List ℕ) (m : ℕ) → m < 2 ^ length ends → weightOfAll (chosen m (runs numbers ends)) ≡ ones m
+chosen-weighs numbers ends m h =
+    plain-all (chosen-plain m (all-plain numbers ends))
+    ∙ ones-chosen m (runs numbers ends) (all-labelled numbers ends) (subst (λ x. m < 2 ^ x) (sym (all-length numbers ends)) h)
+
 pub chosen-fit : (numbers ends : List ℕ) (m t : ℕ) → Fits pastBin numbers → chosenChecks numbers ends m t ≡ passed → Fit (chosen m (runs numbers ends)) t
 chosen-fit numbers ends m t h e =
     let p = chosen-passed numbers ends m t e in
-    let n = all-length numbers ends in
     let l = all-labelled numbers ends in
-    let k = ones-chosen m (runs numbers ends) l (subst (λ x. m < 2 ^ x) (sym n) (p .only)) in
+    let k = chosen-weighs numbers ends m (p .only) in
     let q = p .met in
     record {
       rising = chosen-rising m (runs numbers ends) (runs-rising numbers ends h (p .lists));
       labels = chosen-ascending m (runs numbers ends) (ascending l);
       some = p .threshold;
-      runs = omega arith;
+      met = omega arith;
     }
 
 pub every-run : (numbers ends : List ℕ) → chosen (2 ^ length ends - 1) (runs numbers ends) ≡ runs numbers ends
@@ -328,3 +366,21 @@ every-run numbers ends =
 pub fit : (numbers ends : List ℕ) (t : ℕ) → Fits pastBin numbers → firstChecks numbers ends t ≡ passed → Fit (runs numbers ends) t
 fit numbers ends t h e =
     subst (λ x. Fit x t) (every-run numbers ends) (chosen-fit numbers ends (2 ^ length ends - 1) t h (all-chosen-checks numbers ends t e))
+
+-- what the runs with weights weigh: the sum of the row
+pub weighted-weighs : (numbers ends weights : List ℕ) → length weights ≡ length ends → weightOfAll (weighted weights (runs numbers ends)) ≡ sumOfWeights weights
+weighted-weighs numbers ends weights e =
+    weighted-sum weights (runs numbers ends) (all-labelled numbers ends) (all-length numbers ends ∙ sym e)
+
+pub weighted-fit : (numbers ends weights : List ℕ) (wanted : ℕ) → Fits pastBin numbers → weightedChecks numbers ends weights wanted ≡ passed
+    → Fit (weighted weights (runs numbers ends)) wanted
+weighted-fit numbers ends weights wanted h e =
+    let p = weighted-passed numbers ends weights wanted e in
+    let s = weighted-weighs numbers ends weights (p .row) in
+    let m = p .met in
+    record {
+      rising = weighted-rising weights (runs-rising numbers ends h (p .lists));
+      labels = weighted-ascending weights (ascending (all-labelled numbers ends));
+      some = p .threshold;
+      met = omega arith;
+    }

@@ -1,25 +1,23 @@
--- The t-th smallest head: at least t heads do not exceed it, fewer than t are below it, and it stands at place t − 1 of the heads in rising
--- order. It is past the last bin exactly when fewer than t runs have a head. Assumes nothing.
-use Prim.Native.Nat.{ℕ, zero, suc, _+_, _-_, _≤_, _<_, min}
-use borrow.Author.Tests.{le-leb, lt-ltb, le-ltb, lt-leb, leb-true, leb-false, ltb-true, eq-eqb, eqb-true, ltb-false}
+-- The least head such that the runs whose heads do not exceed it weigh at least t: those whose heads are below it weigh less than t. It is past the last bin
+-- exactly when the runs with a head weigh less than t. In any row of heads in rising order it is the first up to which the row weighs enough. Assumes nothing.
+use Prim.Native.Nat.{ℕ, zero, suc, _+_, _*_, _≤_, _<_, min}
+use borrow.Author.Tests.{le-leb, lt-ltb, le-ltb, lt-leb, leb-true, eq-eqb, ne-eqb, eqb-true}
 use lib.Dec.{ltb, leb, eqb}
-use lib.ListN.{length, getD}
 use mathlib.Core.Bool.{Bool, true, false}
 use mathlib.Core.List.{List, [], _∷_, List·Memᴰ, List·Memᴰ·head, List·Memᴰ·tail, List·Memᴰ·not-nil, List·Memᴰ·cases-cons}
-use mathlib.Core.Logic.{_⊎_, inl, inr, ⊎-elim, _↔_}
+use mathlib.Core.Logic.{⊎-elim, _↔_, _≢_}
 use mathlib.Core.Path.{_≡_, refl, sym, ap, _∙_, subst}
-use native.Mathlib.Nat.{min-eq-left, min-eq-right, le-antisymm}
+use native.Mathlib.Nat.{min-eq-left, min-eq-right, le-antisymm, one-mul, zero-mul}
 use native.Mathlib.Omega.{arith}
-use Rattle.model.specs.Runs.{Run, pastBin, total, one, count}
-use Rattle.model.specs.Walk.{head, leastHead, tthHead}
-use Rattle.model.proofs.Count.{count-le, count-eq, count-some}
-use Rattle.model.proofs.Tests.{both, lt-or-le}
-use Rattle.model.proofs.Ordered.{ordered-at}
-use Rattle.model.specs.Rows.{Ordered, ordered-nil, ordered-cons, below}
+use Rattle.model.specs.Runs.{Run, pastBin, total, one, weightOf, weightOfAll}
+use Rattle.model.specs.Walk.{head, leastHead, enoughHead}
+use Rattle.model.proofs.Count.{total-add, total-eq, total-zero, weight-le, weight-eq, weight-some}
+use Rattle.model.proofs.Tests.{both, lt-or-le, eq-or-ne}
+use Rattle.model.specs.Rows.{below}
 
--- how many heads are not above h
+-- what the runs whose heads are not above h weigh
 unfoldable pub atMost : ℕ → List Run → ℕ
-atMost h rs = count (λ r. leb (head r) h) rs
+atMost h rs = weightOf (λ r. leb (head r) h) rs
 
 -- every head is a bin or the number after the last
 pub record Heads (rs : List Run) : Type 0 where
@@ -80,153 +78,108 @@ module _ (p : ℕ → Bool) where
       (λ (q : p (head r) ≡ false). rw (q, leastHead) i)
       (both (p (head r)))
 
-at-most-past : (rs : List Run) → Heads rs → atMost pastBin rs ≡ length rs
-unfolding atMost count total one
-at-most-past [] h = refl
-at-most-past (r ∷ rs) h =
-    let e : leb (head r) pastBin ≡ true = le-leb (head r) pastBin (h .small r (List·Memᴰ·head refl)) in
-    let i = at-most-past rs (record { small = λ s m. h .small s (List·Memᴰ·tail m) }) in
-    rw e (omega arith)
+at-most-past : (rs : List Run) → Heads rs → atMost pastBin rs ≡ weightOfAll rs
+unfolding atMost weightOf weightOfAll one
+at-most-past rs h =
+    total-eq _ _ rs (λ r m. ap (λ b. one b * r .weight) (le-leb (head r) pastBin (h .small r m)) ∙ one-mul (r .weight))
 
-pub tth-past : (t : ℕ) (rs : List Run) → tthHead t rs ≤ pastBin
-unfolding tthHead
-tth-past t rs = least-past _ rs
+pub enough-past : (t : ℕ) (rs : List Run) → enoughHead t rs ≤ pastBin
+unfolding enoughHead
+enough-past t rs = least-past _ rs
 
-pub tth-ge : (t f : ℕ) (rs : List Run) → f ≤ pastBin → ((r : Run) → List·Memᴰ r rs → f ≤ head r) → f ≤ tthHead t rs
-unfolding tthHead
-tth-ge t f rs l h = least-ge _ f l rs h
+pub enough-ge : (t f : ℕ) (rs : List Run) → f ≤ pastBin → ((r : Run) → List·Memᴰ r rs → f ≤ head r) → f ≤ enoughHead t rs
+unfolding enoughHead
+enough-ge t f rs l h = least-ge _ f l rs h
 
--- at least t heads do not exceed it
-pub tth-enough : (t : ℕ) (rs : List Run) → Heads rs → t ≤ length rs → t ≤ atMost (tthHead t rs) rs
-unfolding tthHead atMost
-tth-enough t rs h l =
-    let e : t ≤ count (λ r. leb (head r) pastBin) rs = omega (arith, at-most-past rs h) in
-    leb-true t _ (least-passes (λ x. leb t (count (λ r. leb (head r) x) rs)) (le-leb t _ e) rs)
+-- the runs whose heads do not exceed it weigh at least t
+pub enough-reached : (t : ℕ) (rs : List Run) → Heads rs → t ≤ weightOfAll rs → t ≤ atMost (enoughHead t rs) rs
+unfolding enoughHead atMost
+enough-reached t rs h l =
+    let e : t ≤ weightOf (λ r. leb (head r) pastBin) rs = omega (arith, at-most-past rs h) in
+    leb-true t _ (least-passes (λ x. leb t (weightOf (λ r. leb (head r) x) rs)) (le-leb t _ e) rs)
 
 below-suc : (x : ℕ) (rs : List Run) → below (suc x) rs ≡ atMost x rs
 unfolding below atMost
-below-suc x rs = count-eq _ _ rs (λ r m. same (head r))
+below-suc x rs = weight-eq _ _ rs (λ r m. same (head r))
   where
     same : (h : ℕ) → ltb h (suc x) ≡ leb h x
     same h = ⊎-elim (λ (q : h < suc x). lt-ltb h (suc x) q ∙ sym (le-leb h x (omega arith))) (λ (q : suc x ≤ h). le-ltb h (suc x) q ∙ sym (lt-leb h x (omega arith))) (lt-or-le h (suc x))
 
 below-zero : (rs : List Run) → below 0 rs ≡ 0
-unfolding below count total one
-below-zero [] = refl
-below-zero (r ∷ rs) = let i = below-zero rs in rw (le-ltb (head r) 0 (omega arith)) (omega arith)
+unfolding below weightOf one
+below-zero rs = total-zero _ rs (λ r m. ap (λ b. one b * r .weight) (le-ltb (head r) 0 (omega arith)) ∙ zero-mul (r .weight))
 
-some-zero : (x : ℕ) (rs : List Run) (r : Run) → List·Memᴰ r rs → head r ≡ x → count (λ s. eqb (head s) x) rs ≡ 0 → ⊥
-unfolding count total one
-some-zero x [] r m j z = List·Memᴰ·not-nil m
-some-zero x (s ∷ rs) r m j z =
-    ⊎-elim
-    (λ (i : r ≡ s). let k : eqb (head s) x ≡ true = eq-eqb (head s) x (sym (ap head i) ∙ j) in absurd (omega (arith, rw k at z)))
-    (λ (n : List·Memᴰ r rs). some-zero x rs r n j (omega arith))
-    (List·Memᴰ·cases-cons m)
+-- the runs whose heads are not above x: those below it, and those at it
+at-most-split : (x : ℕ) (rs : List Run) → atMost x rs ≡ below x rs + weightOf (λ r. eqb (head r) x) rs
+unfolding atMost below weightOf one
+at-most-split x rs =
+    total-eq _ (λ r. one (ltb (head r) x) * r .weight + one (eqb (head r) x) * r .weight) rs (λ r m. split (head r) (r .weight))
+    ∙ total-add (λ r. one (ltb (head r) x) * r .weight) (λ r. one (eqb (head r) x) * r .weight) rs
+  where
+    split : (h w : ℕ) → one (leb h x) * w ≡ one (ltb h x) * w + one (eqb h x) * w
+    split h w =
+        ⊎-elim
+        (λ (q : h < x). let n : h ≢ x = omega arith in rw (lt-ltb h x q, le-leb h x (omega arith), ne-eqb h x n) (omega arith))
+        (λ (q : x ≤ h).
+        ⊎-elim
+        (λ (e : h ≡ x). rw (le-ltb h x q, le-leb h x (omega arith), eq-eqb h x e) (omega arith))
+        (λ (n : h ≢ x). rw (le-ltb h x q, lt-leb h x (omega arith), ne-eqb h x n) (omega arith))
+        (eq-or-ne h x))
+        (lt-or-le h x)
 
--- a bin that is no head: as many heads are not above it as are below it
-no-head : (x : ℕ) (rs : List Run) → count (λ r. eqb (head r) x) rs ≡ 0 → atMost x rs ≤ below x rs
-unfolding atMost below
-no-head x rs e =
-    count-le _ _ rs
-    (λ r m q.
-    ⊎-elim
-    (λ (l : head r < x). lt-ltb (head r) x l)
-    (λ (l : x ≤ head r). let i = leb-true (head r) x q in absurd (some-zero x rs r m (omega arith) e))
-    (lt-or-le (head r) x))
-
-least-at : (t x : ℕ) (rs : List Run) (r : Run) → List·Memᴰ r rs → head r ≡ x → t ≤ atMost x rs → tthHead t rs ≤ x
-unfolding atMost tthHead
+least-at : (t x : ℕ) (rs : List Run) (r : Run) → List·Memᴰ r rs → head r ≡ x → t ≤ atMost x rs → enoughHead t rs ≤ x
+unfolding atMost enoughHead
 least-at t x rs r m e u =
-    let j : leb t (count (λ s. leb (head s) (head r)) rs) ≡ true = rw e (le-leb t _ u) in
-    let k = least-le (λ h. leb t (count (λ s. leb (head s) h) rs)) rs r m j in
+    let j : leb t (weightOf (λ s. leb (head s) (head r)) rs) ≡ true = rw e (le-leb t _ u) in
+    let k = least-le (λ h. leb t (weightOf (λ s. leb (head s) h) rs)) rs r m j in
     omega arith
 
--- fewer than t heads are below it
-few-below : (t : ℕ) (rs : List Run) → 0 < t → (x : ℕ) → x ≤ tthHead t rs → below x rs < t
+-- the runs whose heads are below it weigh less than t
+few-below : (t : ℕ) (rs : List Run) → 0 < t → (x : ℕ) → x ≤ enoughHead t rs → below x rs < t
 few-below t rs l zero h = rw (below-zero rs) l
 few-below t rs l (suc x) h =
     let i = few-below t rs l x (omega arith) in
     rw (below-suc x rs)
     (⊎-elim
-    (λ (q : 0 < count (λ r. eqb (head r) x) rs).
-    let s = count-some _ rs q in
+    (λ (q : 0 < weightOf (λ r. eqb (head r) x) rs).
+    let s = weight-some _ rs q in
     ⊎-elim
     (λ (u : atMost x rs < t). u)
     (λ (u : t ≤ atMost x rs). let w = least-at t x rs (s .0) (s .1) (eqb-true (head (s .0)) x (s .2)) u in absurd (omega arith))
     (lt-or-le (atMost x rs) t))
-    (λ (q : count (λ r. eqb (head r) x) rs ≤ 0). let j = no-head x rs (omega arith) in omega arith)
-    (lt-or-le 0 (count (λ r. eqb (head r) x) rs)))
+    (λ (q : weightOf (λ r. eqb (head r) x) rs ≤ 0). let j = at-most-split x rs in omega arith)
+    (lt-or-le 0 (weightOf (λ r. eqb (head r) x) rs)))
 
 pub below-mono : {x y : ℕ} → x < y → (rs : List Run) → atMost x rs ≤ below y rs
 unfolding atMost below
-below-mono {x} {y} h rs = count-le _ _ rs (λ r m q. let i = leb-true (head r) x q in lt-ltb (head r) y (omega arith))
+below-mono {x} {y} h rs = weight-le _ _ rs (λ r m q. let i = leb-true (head r) x q in lt-ltb (head r) y (omega arith))
 
-pub tth-few : (t : ℕ) (rs : List Run) → 0 < t → below (tthHead t rs) rs < t
-tth-few t rs l = few-below t rs l (tthHead t rs) (omega arith)
+pub enough-few : (t : ℕ) (rs : List Run) → 0 < t → below (enoughHead t rs) rs < t
+enough-few t rs l = few-below t rs l (enoughHead t rs) (omega arith)
 
--- it is past the last bin exactly when fewer than t runs have a head
-pub tth-none : (t : ℕ) (rs : List Run) → Heads rs → 0 < t → t ≤ length rs → (tthHead t rs ≡ pastBin) ↔ (below pastBin rs < t)
-tth-none t rs h l k = (
-  λ e. subst (λ (x : ℕ). below x rs < t) e (tth-few t rs l),
+-- it is past the last bin exactly when the runs with a head weigh less than t
+pub enough-none : (t : ℕ) (rs : List Run) → Heads rs → 0 < t → t ≤ weightOfAll rs → (enoughHead t rs ≡ pastBin) ↔ (below pastBin rs < t)
+enough-none t rs h l k = (
+  λ e. subst (λ (x : ℕ). below x rs < t) e (enough-few t rs l),
   λ q.
-      let i = tth-past t rs in
-      let j = tth-enough t rs h k in
+      let i = enough-past t rs in
+      let j = enough-reached t rs h k in
       ⊎-elim
-      (λ (u : tthHead t rs < pastBin). let w = below-mono u rs in absurd (omega arith))
-      (λ (u : pastBin ≤ tthHead t rs). le-antisymm i u)
-      (lt-or-le (tthHead t rs) pastBin),
+      (λ (u : enoughHead t rs < pastBin). let w = below-mono u rs in absurd (omega arith))
+      (λ (u : pastBin ≤ enoughHead t rs). le-antisymm i u)
+      (lt-or-le (enoughHead t rs) pastBin),
 )
 
--- how many numbers are not above h
-unfoldable pub notAbove : ℕ → List ℕ → ℕ
-notAbove h [] = 0
-notAbove h (x ∷ s) = one (leb x h) + notAbove h s
-
-none-above : (h : ℕ) {a : ℕ} {s : List ℕ} → h < a → Ordered a s → notAbove h s ≡ 0
-unfolding notAbove one
-none-above h l ordered-nil = refl
-none-above h l (ordered-cons {x = x} m o) = let i = none-above h (omega arith) o in rw (lt-leb x h (omega arith)) (omega arith)
-
--- the i-th of them: more than i are not above it, and at most i are not above a smaller number
-nth-enough : {a : ℕ} (s : List ℕ) → Ordered a s → (i : ℕ) → i < length s → i < notAbove (getD s i 0) s
-unfolding notAbove one
-nth-enough [] o i l = absurd (omega arith)
-nth-enough (x ∷ s) o zero l = rw (le-leb x x (omega arith)) (omega arith)
-nth-enough (x ∷ s) (ordered-cons m o) (suc i) l =
-    let j = nth-enough s o i (omega arith) in
-    rw (le-leb x (getD s i 0) (ordered-at s o i (omega arith))) (omega arith)
-
-nth-least : {a : ℕ} (s : List ℕ) → Ordered a s → (i h : ℕ) → i < length s → h < getD s i 0 → notAbove h s ≤ i
-unfolding notAbove one
-nth-least [] o i h l m = absurd (omega arith)
-nth-least (x ∷ s) (ordered-cons p o) zero h l m =
-    let j = none-above h m o in rw (lt-leb x h m) (omega arith)
-nth-least (x ∷ s) (ordered-cons p o) (suc i) h l m =
-    let j = nth-least s o i h (omega arith) m in
-    ⊎-elim (λ (e : leb x h ≡ true). rw e (omega arith)) (λ (e : leb x h ≡ false). rw e (omega arith)) (both (leb x h))
-
--- In any list of the heads in rising order the t-th is the t-th smallest head.
-pub tth-smallest : (t : ℕ) (rs : List Run) {a : ℕ} (hs : List ℕ) → Heads rs → t < length rs → Ordered a hs → length hs ≡ length rs
-    → ((h : ℕ) → notAbove h hs ≡ atMost h rs) → getD hs t 0 ≡ tthHead (suc t) rs
-tth-smallest t rs hs b l o e same =
-    let v = tthHead (suc t) rs in
-    let x = getD hs t 0 in
+-- Where the runs whose heads are not above v weigh enough, and those whose heads are not above any smaller number do not, v is that head.
+pub enough-first : (t v : ℕ) (rs : List Run) → Heads rs → 0 < t → t ≤ weightOfAll rs → t ≤ atMost v rs → ((h : ℕ) → h < v → atMost h rs < t) → v ≡ enoughHead t rs
+enough-first t v rs b p l e least =
+    let u = enoughHead t rs in
     le-antisymm
     (⊎-elim
-    (λ (q : v < x).
-    let i = nth-least hs o t v (omega arith) q in
-    let j = tth-enough (suc t) rs b (omega arith) in
-    let k = same v in
-    absurd (omega arith))
-    (λ (q : x ≤ v). q)
-    (lt-or-le v x))
+    (λ (q : u < v). let i = least u q in let j = enough-reached t rs b l in absurd (omega arith))
+    (λ (q : v ≤ u). q)
+    (lt-or-le u v))
     (⊎-elim
-    (λ (q : x < v).
-    let i = nth-enough hs o t (omega arith) in
-    let j = few-below (suc t) rs (omega arith) (suc x) q in
-    let k = same x in
-    let m = below-suc x rs in
-    absurd (omega arith))
-    (λ (q : v ≤ x). q)
-    (lt-or-le x v))
+    (λ (q : v < u). let i = few-below t rs p (suc v) q in let j = below-suc v rs in absurd (omega arith))
+    (λ (q : u ≤ v). q)
+    (lt-or-le v u))

@@ -5,18 +5,18 @@ use mathlib.Core.Path.{refl}
 use Rattle.model.specs.Between.{within, between}
 use Rattle.model.specs.Certificate.{firstOf, lastOf, answersOf, bytesOf, numberOf, field, encodePart, encode, sizeOf, readBody, readField}
 use Rattle.model.specs.Compared.{wholeWalk, partsOf, cost, doublingProbe, halvingProbe, doublingsOf, halvingsOf}
-use Rattle.model.specs.Instances.{asked, expected, limited, instance, listingNumbers, listingEnds, listing, figure1, listingParts, starred, roundedDown, longNumbers, longEnds, longParts, probeKinds, unmapped, AsExpected, askedMany, expectedMany, firstTwoParts, othersParts, threeQuestions, twoQuestions, refusedMany, longTwice, manyQuestions, unmappedMany, ManyAsExpected, Unmapped}
+use Rattle.model.specs.Instances.{asked, expected, limited, instance, listingNumbers, listingEnds, listing, figure1, listingParts, starred, roundedDown, longNumbers, longEnds, longParts, probeKinds, unmapped, AsExpected, askedMany, expectedMany, firstTwoParts, othersParts, threeQuestions, twoQuestions, refusedMany, longTwice, manyQuestions, unmappedMany, ManyAsExpected, Unmapped, askedWeighted, expectedWeighted, weightedListing, oneTwoThree, heavyParts, refusedWeighted, withWeights, WeightedAsExpected, judgedWeighted, Judged}
 use Rattle.model.specs.Many.{inQuestion, rowsCheck, questionChecks, manyChecks, leftAfter, walks, eventsOf, ending, reached, manyOutcome, answeredMany, walksOf, queryMany}
-use Rattle.model.specs.Refusals.{_then_, refuseIf, refuseAt, fallsFrom, lastEnd, unrisenIn, countCheck, thresholdCheck, listChecks, maskCheck, firstChecks, met, after, cut, cutWalk, over, outcomeOf, query, misplaced, namesOther, misnamed, contradicts, anyContradicts, checkPart, counted, atEnd, checkFrom, judged, check}
-use Rattle.model.specs.Runs.{firstBin, lastBin, pastBin, from, rank, runsFrom, runs, unrisenAfter, unrisen, unrisenRun, holds, total, one, count, mask, maskOfAll, bit, names, chosen}
-use Rattle.model.specs.Walk.{headOf, head, leastHead, tthHead, doubling, halving, seek, searchIn, searches, searched, movedOn, settle, round, walk}
+use Rattle.model.specs.Refusals.{_then_, refuseIf, refuseAt, fallsFrom, lastEnd, unrisenIn, countCheck, misweighed, weightsCheck, thresholdCheck, sumOfWeights, listChecks, maskCheck, firstChecks, weightedChecks, met, after, cut, cutWalk, over, outcomeOf, answeredBy, query, queryWeighted, misplaced, namesOther, misnamed, contradicts, anyContradicts, checkPart, counted, atEnd, checkFrom, judged, check, checkWeighted}
+use Rattle.model.specs.Runs.{firstBin, lastBin, pastBin, from, rank, runsFrom, runs, unrisenAfter, unrisen, unrisenRun, holds, weightedRun, weighted, total, one, weightOf, mask, maskOfAll, bit, names, chosen}
+use Rattle.model.specs.Walk.{headOf, head, leastHead, enoughHead, doubling, halving, seek, searchIn, searches, searched, movedOn, settle, round, walk}
 
 pub instances : AsExpected (roundedDown ∷ (unmapped ++ (probeKinds ++ starred)))
 unfolding asked expected limited instance listingNumbers listingEnds listing figure1 listingParts starred roundedDown longNumbers longEnds longParts probeKinds unmapped
     firstOf lastOf answersOf bytesOf field encodePart encode wholeWalk partsOf cost doublingProbe halvingProbe doublingsOf halvingsOf
-    _then_ refuseIf refuseAt fallsFrom lastEnd unrisenIn countCheck thresholdCheck listChecks firstChecks met after cut cutWalk over outcomeOf query
-    firstBin lastBin pastBin from rank runsFrom runs unrisenAfter unrisen unrisenRun total one count mask
-    headOf head leastHead tthHead doubling halving seek searchIn searches searched movedOn settle round walk
+    _then_ refuseIf refuseAt fallsFrom lastEnd unrisenIn countCheck thresholdCheck listChecks firstChecks met after cut cutWalk over outcomeOf answeredBy query
+    firstBin lastBin pastBin from rank runsFrom runs unrisenAfter unrisen unrisenRun total one weightOf mask
+    headOf head leastHead enoughHead doubling halving seek searchIn searches searched movedOn settle round walk
 instances = record { same = refl }
 
 pub many-instances : ManyAsExpected (unmappedMany ∷ manyQuestions)
@@ -24,8 +24,8 @@ unfolding askedMany expectedMany listingNumbers listingEnds listingParts firstTw
     longParts longTwice manyQuestions unmappedMany
     firstOf lastOf answersOf bytesOf field encodePart encode wholeWalk partsOf cost doublingProbe halvingProbe doublingsOf halvingsOf
     _then_ refuseIf refuseAt fallsFrom lastEnd unrisenIn countCheck thresholdCheck listChecks maskCheck met after cut over
-    firstBin lastBin pastBin from rank runsFrom runs unrisenAfter unrisen unrisenRun total one count mask bit names chosen
-    headOf head leastHead tthHead doubling halving seek searchIn searches searched movedOn settle round walk
+    firstBin lastBin pastBin from rank runsFrom runs unrisenAfter unrisen unrisenRun total one weightOf mask bit names chosen
+    headOf head leastHead enoughHead doubling halving seek searchIn searches searched movedOn settle round walk
     inQuestion rowsCheck questionChecks manyChecks leftAfter walks eventsOf ending reached manyOutcome answeredMany walksOf queryMany ones
 many-instances = record { same = refl }
 
@@ -33,7 +33,7 @@ pub unmapped-instances : Unmapped
 unfolding within between listingNumbers listingEnds listingParts bytesOf numberOf field encodePart encode sizeOf firstOf lastOf readBody readField
     _then_ refuseIf refuseAt fallsFrom lastEnd unrisenIn countCheck thresholdCheck listChecks firstChecks misplaced namesOther misnamed contradicts anyContradicts
     checkPart counted atEnd checkFrom judged check
-    firstBin pastBin from rank runsFrom runs unrisenAfter unrisen unrisenRun holds total one mask maskOfAll bit names ones
+    firstBin pastBin from rank runsFrom runs unrisenAfter unrisen unrisenRun holds total one weightOf mask maskOfAll bit names
 unmapped-instances = record {
   shown = refl;
   not-shown = refl;
@@ -44,4 +44,31 @@ unmapped-instances = record {
   from-0 = refl;
   judged-alike = refl;
   refused-alike = refl;
+}
+
+pub weighted-instances : WeightedAsExpected withWeights
+unfolding askedWeighted expectedWeighted expected limited instance listingNumbers listingEnds listingParts weightedListing oneTwoThree heavyParts refusedWeighted withWeights
+    firstOf lastOf answersOf bytesOf field encodePart encode wholeWalk partsOf cost doublingProbe halvingProbe doublingsOf halvingsOf
+    _then_ refuseIf refuseAt fallsFrom lastEnd unrisenIn countCheck misweighed weightsCheck thresholdCheck sumOfWeights listChecks weightedChecks met after cut cutWalk
+    over outcomeOf answeredBy queryWeighted
+    firstBin lastBin pastBin from rank runsFrom runs weightedRun weighted unrisenAfter unrisen unrisenRun total one weightOf mask
+    headOf head leastHead enoughHead doubling halving seek searchIn searches searched movedOn settle round walk
+weighted-instances = record { same = refl }
+
+pub judged-instances : Judged
+unfolding within listingNumbers listingEnds listingParts heavyParts judgedWeighted bytesOf numberOf field encodePart encode sizeOf firstOf lastOf readBody readField
+    _then_ refuseIf refuseAt fallsFrom lastEnd unrisenIn countCheck misweighed weightsCheck thresholdCheck sumOfWeights listChecks firstChecks weightedChecks
+    misplaced namesOther misnamed contradicts anyContradicts checkPart counted atEnd checkFrom judged check checkWeighted
+    firstBin pastBin from rank runsFrom runs weightedRun weighted unrisenAfter unrisen unrisenRun holds total one weightOf mask maskOfAll bit names
+judged-instances = record {
+  of-the-walk = refl;
+  by-number = refl;
+  of-the-listing = refl;
+  left-out = refl;
+  left-out-enough = refl;
+  too-light = refl;
+  no-run = refl;
+  row = refl;
+  weight = refl;
+  too-much = refl;
 }

@@ -22,6 +22,7 @@ pub mod ManyDemands
 pub mod ManyEnough
 pub mod Masks
 pub mod Ordered
+pub mod Plain
 pub mod Quiet
 pub mod Rounds
 pub mod Searching
@@ -30,4 +31,5 @@ pub mod Tests
 pub mod Truth
 pub mod Unmapped
 pub mod Walking
+pub mod Weighted
 pub mod Zeros

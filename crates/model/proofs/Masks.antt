@@ -15,8 +15,8 @@ use mathlib.Core.Path.{_≡_, refl, sym, ap, _∙_, subst}
 use native.Mathlib.Nat.{div-one, add-comm, zero-add, div-eq-of-lt, div-eq-of-lt-le, zero-div, div-lt-iff-lt-mul, div-mul-le-self, mod-lt, one-mul, mul-assoc, mul-div-cancel}
 use native.Mathlib.Omega.{arith}
 use Rattle.model.specs.Certificate.{NamesOnly}
-use Rattle.model.specs.Runs.{Run, total, one, count, mask, maskOfAll, bit, names}
-use Rattle.model.proofs.Count.{count-eq}
+use Rattle.model.specs.Plain.{count}
+use Rattle.model.specs.Runs.{Run, total, one, mask, maskOfAll, bit, names}
 use Rattle.model.proofs.Tests.{lt-or-le, eq-or-ne}
 
 -- the runs' labels are a, a + 1 and so on

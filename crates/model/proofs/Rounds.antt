@@ -10,8 +10,8 @@ use mathlib.Core.Path.{_≡_, refl, sym, ap, _∙_}
 use native.Mathlib.Omega.{arith}
 use Rattle.model.specs.Compared.{wholeWalk, partsOf, wholeCertificate}
 use Rattle.model.specs.Runs.{Run, firstBin, lastBin, pastBin}
-use Rattle.model.specs.Walk.{Event, wrote, head, tthHead, searches, searched, settle, walk}
-use Rattle.model.proofs.Count.{count-le}
+use Rattle.model.specs.Walk.{Event, wrote, head, enoughHead, searches, searched, settle, walk}
+use Rattle.model.proofs.Count.{weight-le}
 use Rattle.model.proofs.Demands.{whole-walked}
 use Rattle.model.proofs.Events.{parts-wrote, parts-round}
 use Rattle.model.specs.Rows.{below, equal}
@@ -33,7 +33,7 @@ unfolding atMost below
 heads-left {rs} {t} {f} {v} a =
     let b = a .bin in
     let e = a .enough in
-    let i = count-le (λ r. leb (head r) v) (λ r. ltb (head r) pastBin) (at f rs)
+    let i = weight-le (λ r. leb (head r) v) (λ r. ltb (head r) pastBin) (at f rs)
     (λ r m q. let j = leb-true (head r) v q in lt-ltb (head r) pastBin (omega arith)) in
     omega arith
 
@@ -56,8 +56,8 @@ to-gap : (rs : List Run) (t n f v : ℕ) → Rising rs → Ahead rs t f v → f 
 unfolding walk
 to-gap rs t n f v g a l =
     let b = a .bin in
-    let e = a .tth in
-    let h : f < tthHead t (at f rs) = omega arith in
+    let e = a .least in
+    let h : f < enoughHead t (at f rs) = omega arith in
     round-gap (walk n t) t f rs (heads-left a) h
     ∙ (ap (λ x. wrote (gapAt rs f x (x - 1)) ∷ (searches x (at f rs) ++ settle (walk n t) t x (map (searched x) (at f rs)))) e
     ∙ ap (λ x. wrote (gapAt rs f v (v - 1)) ∷ (searches v (at f rs) ++ settle (walk n t) t v x)) (searched-at f v rs g (omega arith) (omega arith)))
@@ -88,7 +88,7 @@ enough-rounds {rs} {f = f} g (hit-here {es = es} a q w) zero l b =
     let p = ap length (parts-wrote (answerAt rs f) es) in absurd (omega arith)
 enough-rounds {rs} {t} {f} g (hit-here {es = es} a q w) (suc n) l b =
     let p = ap length (parts-wrote (answerAt rs f) es) in
-    round-here (walk n t) t f rs (heads-left a) (a .tth)
+    round-here (walk n t) t f rs (heads-left a) (a .least)
     ∙ (rw (no-searches f (at f rs) (at-least f rs g (omega arith)), searched-at f f rs g (omega arith) (omega arith))
     (after-answer rs t n f es g b q w (λ c. enough-rounds g w n (omega arith) c)))
 

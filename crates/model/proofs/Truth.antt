@@ -1,32 +1,31 @@
--- The parts of a walk are true and cover the bins from its floor on. A gap names the runs whose head is not below v, and fewer than t heads are;
+-- The parts of a walk are true and cover the bins from its floor on. A gap names the runs whose head is not below v, and those whose head is weigh less than t;
 -- an answer names the runs whose head it is. Assumes nothing.
 use Prim.Native.Nat.{ℕ, suc, _-_, _≤_, _<_}
 use borrow.Author.Tests.{lt-ltb, le-ltb, le-leb, lt-leb, leb-true, eqb-true}
 use lib.Dec.{ltb, leb, eqb}
-use lib.ListN.{length}
-use mathlib.Core.Bool.{Bool, not}
+use mathlib.Core.Bool.{Bool, true, false, not}
 use mathlib.Core.List.{List, [], _∷_, List·Memᴰ, List·Memᴰ·head, List·Memᴰ·tail, List·Memᴰ·not-nil, List·Memᴰ·cases-cons}
 use mathlib.Core.Logic.{⊎-elim}
 use mathlib.Core.Path.{_≡_, refl, sym, ap, _∙_, subst}
 use native.Mathlib.Omega.{arith}
 use Rattle.model.specs.Certificate.{Part, firstOf, lastOf, Covers, covered, covers, NamesOnly, TrueGap, TrueAnswer, TruePart, gap-true, answer-true}
 use Rattle.model.specs.Compared.{partsOf}
-use Rattle.model.specs.Runs.{Run, lastBin, pastBin, from, mask, names}
+use Rattle.model.specs.Runs.{Run, lastBin, pastBin, from, weightOf, weightOfAll, mask, names}
 use Rattle.model.specs.Walk.{Event, head, headOf, wrote}
-use Rattle.model.proofs.Count.{count-not}
+use Rattle.model.proofs.Count.{weight-map, weight-eq}
 use Rattle.model.proofs.Events.{parts-wrote, parts-nil, parts-round}
 use Rattle.model.specs.Rows.{below, equal}
 use Rattle.model.proofs.From.{rise-from, mem-from, from-mem, head-below-mem, head-mem}
-use Rattle.model.proofs.Masks.{Ascending, ascending-nil, ascending-cons, mask-bit, ones-mask, names-mask}
+use Rattle.model.proofs.Masks.{Ascending, ascending-nil, ascending-cons, mask-bit, names-mask}
 use Rattle.model.proofs.Tests.{lt-or-le}
-use Rattle.model.proofs.Walking.{Rising, map-mem, fromRun, at, at-length, head-from, past-last, gapAt, answerAt, Walked, over, stop, pass, hit, hit-here}
+use Rattle.model.proofs.Walking.{Rising, map-mem, fromRun, at, head-from, past-last, gapAt, answerAt, Walked, over, stop, pass, hit, hit-here}
 
 -- runs that rise, their labels too, with a threshold that they can meet
 pub record Fit (rs : List Run) (t : ℕ) : Type 0 where
   pub rising : Rising rs
   pub labels : Ascending 0 rs
   pub some : 0 < t
-  pub runs : t ≤ length rs
+  pub met : t ≤ weightOfAll rs
 
 pub ascending-at : (f : ℕ) {a : ℕ} {rs : List Run} → Ascending a rs → Ascending a (at f rs)
 unfolding at fromRun
@@ -57,15 +56,27 @@ not-below h v =
     (λ (q : v ≤ h). rw (le-ltb h v q, le-leb v h q))
     (lt-or-le h v)
 
+-- what the runs that pass a test at a floor weigh
+pub weight-at : (p : Run → Bool) (f : ℕ) (rs : List Run) → weightOf p (at f rs) ≡ weightOf (λ r. p (fromRun f r)) rs
+unfolding at fromRun
+weight-at p f rs = weight-map p (fromRun f) rs (λ r. refl)
+
+below-not : (h v : ℕ) → not (leb v h) ≡ ltb h v
+below-not h v =
+    ⊎-elim
+    (λ (q : h < v). rw (lt-ltb h v q, lt-leb v h q))
+    (λ (q : v ≤ h). rw (le-ltb h v q, le-leb v h q))
+    (lt-or-le h v)
+
 pub gap-is-true : (rs : List Run) (t f v last : ℕ) → Fit rs t → below v (at f rs) < t → last < v → TrueGap rs t f last (mask (λ r. leb v (head r)) (at f rs))
 unfolding below
 gap-is-true rs t f v last g few l =
-    let size = at-length f rs in
-    let split = count-not (λ r. ltb (head r) v) (λ r. leb v (head r)) (at f rs) (λ r m. not-below (head r) v) in
-    let num = ones-mask (λ r. leb v (head r)) (at f rs) (ascending-at f (g .labels)) in
+    let rest = weight-at (λ r. ltb (head r) v) f rs in
+    let same = weight-eq (λ r. not (names (mask (λ s. leb v (head s)) (at f rs)) r)) (λ r. ltb (head (fromRun f r)) v) rs
+    (λ r m. ap not (named (λ s. leb v (head s)) f rs (g .labels) r m) ∙ below-not (head (fromRun f r)) v) in
     record {
       only = only-at _ f rs (g .labels);
-      enough = omega arith;
+      unnamed = omega arith;
       misses = λ r m e x n h k.
           let high : v ≤ head (fromRun f r) = leb-true v _ (sym (named (λ s. leb v (head s)) f rs (g .labels) r m) ∙ e) in
           let low = head-below-mem (rise-from f (r .bins) (g .rising .each r m)) (mem-from f (r .bins) h n) in
@@ -77,7 +88,9 @@ pub answer-is-true : (rs : List Run) (t v : ℕ) → Fit rs t → v < pastBin �
     → TrueAnswer rs t v (mask (λ r. eqb (head r) v) (at v rs))
 unfolding equal
 answer-is-true rs t v g b h =
-    let num = ones-mask (λ r. eqb (head r) v) (at v rs) (ascending-at v (g .labels)) in
+    let held = weight-at (λ r. eqb (head r) v) v rs in
+    let same = weight-eq (names (mask (λ s. eqb (head s) v) (at v rs))) (λ r. eqb (head (fromRun v r)) v) rs
+    (λ r m. named (λ s. eqb (head s) v) v rs (g .labels) r m) in
     record {
       only = only-at _ v rs (g .labels);
       enough = omega arith;

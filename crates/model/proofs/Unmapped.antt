@@ -10,7 +10,7 @@ use native.Mathlib.Omega.{arith}
 use Rattle.model.specs.Between.{within, between}
 use Rattle.model.specs.Certificate.{Part, answersOf, TrueCertificate}
 use Rattle.model.specs.Runs.{Run, firstBin, from, unrisenRun, holds}
-use Rattle.model.proofs.Count.{count-some}
+use Rattle.model.proofs.Count.{weight-some}
 use Rattle.model.proofs.Exact.{exact}
 use Rattle.model.proofs.FirstChecks.{run-ordered}
 use Rattle.model.proofs.From.{rise-least, holds-mem}
@@ -23,7 +23,7 @@ pub answers-bins : {rs : List Run} {t : ℕ} {ps : List Part} → Fit rs t → T
 answers-bins {rs} {t} g c x m =
     let h = exact g c .all-held x .0 m in
     let p = g .some in
-    let s = count-some (λ r. holds x (r .bins)) rs (omega arith) in
+    let s = weight-some (λ r. holds x (r .bins)) rs (omega arith) in
     rise-least (g .rising .each (s .0) (s .1)) (holds-mem x (s .0 .bins) (s .2))
 
 within-mem : (first last : ℕ) (s : List ℕ) {x : ℕ} → List·Memᴰ x (within first last s) → List·Memᴰ x s

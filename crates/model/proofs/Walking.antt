@@ -4,18 +4,17 @@
 use Prim.Native.Nat.{ℕ, zero, suc, _+_, _-_, _≤_, _<_}
 use borrow.Author.Tests.{le-leb, lt-ltb, le-ltb, lt-leb, eq-eqb, ne-eqb, leb-true}
 use lib.Dec.{ltb, leb, eqb}
-use lib.ListN.{length, length-map}
 use mathlib.Core.List.{List, [], _∷_, _++_, map, List·Memᴰ, List·Memᴰ·head, List·Memᴰ·tail, List·Memᴰ·not-nil, List·Memᴰ·cases-cons}
 use mathlib.Core.Logic.{_⊎_, ⊎-elim, _≢_}
 use mathlib.Core.Path.{_≡_, refl, sym, ap, ap₂, _∙_, subst}
 use native.Mathlib.Omega.{arith}
 use Rattle.model.specs.Certificate.{Part, answer, gap}
-use Rattle.model.specs.Runs.{Run, firstBin, lastBin, pastBin, from, count, mask}
-use Rattle.model.specs.Walk.{Event, wrote, headOf, head, tthHead, searchIn, searches, searched, movedOn, settle, round, walk}
-use Rattle.model.proofs.Count.{count-le}
+use Rattle.model.specs.Runs.{Run, firstBin, lastBin, pastBin, from, weightOf, weightOfAll, mask}
+use Rattle.model.specs.Walk.{Event, wrote, headOf, head, enoughHead, searchIn, searches, searched, movedOn, settle, round, walk}
+use Rattle.model.proofs.Count.{total-map, weight-le}
 use Rattle.model.specs.Rows.{Rise, below, equal}
 use Rattle.model.proofs.From.{rise-from, from-from, from-all, from-nil, head-nil, head-cons, head-least, head-bin, from-past-head, from-other-head}
-use Rattle.model.proofs.Heads.{Heads, atMost, tth-past, tth-ge, tth-enough, tth-few}
+use Rattle.model.proofs.Heads.{Heads, atMost, enough-past, enough-ge, enough-reached, enough-few}
 use Rattle.model.proofs.Searching.{sought-right}
 use Rattle.model.proofs.Tests.{lt-or-le, eq-or-ne}
 
@@ -32,7 +31,7 @@ rising-tail g = record { each = λ s m. g .each s (List·Memᴰ·tail m) }
 
 -- a run, and all runs, at their numbers from f on
 unfoldable pub fromRun : ℕ → Run → Run
-fromRun f r = record { label = r .label; bins = from f (r .bins) }
+fromRun f r = record { label = r .label; weight = r .weight; bins = from f (r .bins) }
 
 unfoldable pub at : ℕ → List Run → List Run
 at f rs = map (fromRun f) rs
@@ -53,9 +52,9 @@ map-mem f (r ∷ rs) q m =
     (λ n. let t = map-mem f rs q n in (t .0, List·Memᴰ·tail (t .1), t .2))
     (List·Memᴰ·cases-cons m)
 
-pub at-length : (f : ℕ) (rs : List Run) → length (at f rs) ≡ length rs
-unfolding at
-at-length f rs = length-map rs (fromRun f)
+pub at-weight : (f : ℕ) (rs : List Run) → weightOfAll (at f rs) ≡ weightOfAll rs
+unfolding at weightOfAll fromRun
+at-weight f rs = total-map (λ r. r .weight) (fromRun f) rs
 
 pub head-from : (f : ℕ) (r : Run) → head (fromRun f r) ≡ headOf (from f (r .bins))
 unfolding head fromRun
@@ -66,7 +65,7 @@ unfolding at fromRun
 at-start f [] l g = refl
 at-start f (r ∷ rs) l g =
     ap₂ _∷_
-    (λ i. record { label = r .label; bins = from-all f l (g .each r (List·Memᴰ·head refl)) i })
+    (λ i. record { label = r .label; weight = r .weight; bins = from-all f l (g .each r (List·Memᴰ·head refl)) i })
     (at-start f rs l (rising-tail g))
 
 pub at-heads : (f : ℕ) (rs : List Run) → Rising rs → Heads (at f rs)
@@ -91,19 +90,19 @@ at-least f rs g l q m =
     omega arith
 
 -- a search moves a run to its numbers from v on, and so does no search where the head is not below v
-pub searched-bins : (v l : ℕ) {a : ℕ} (s : List ℕ) → Rise a s → v ≤ pastBin
-    → searched v (record { label = l; bins = s }) ≡ record { label = l; bins = from v s }
+pub searched-bins : (v l w : ℕ) {a : ℕ} (s : List ℕ) → Rise a s → v ≤ pastBin
+    → searched v (record { label = l; weight = w; bins = s }) ≡ record { label = l; weight = w; bins = from v s }
 unfolding searched head
-searched-bins v l [] g h =
-    rw (le-ltb (headOf []) v (rw head-nil h), searched) (λ i. record { label = l; bins = sym (from-nil v) i })
-searched-bins v l (x ∷ s) g h =
+searched-bins v l w [] g h =
+    rw (le-ltb (headOf []) v (rw head-nil h), searched) (λ i. record { label = l; weight = w; bins = sym (from-nil v) i })
+searched-bins v l w (x ∷ s) g h =
     ⊎-elim
     (λ (q : x < v).
     rw (lt-ltb (headOf (x ∷ s)) v (rw (head-cons x s) q), searched)
-    (λ i. record { label = l; bins = (sought-right v x s g q .moved) i }))
+    (λ i. record { label = l; weight = w; bins = (sought-right v x s g q .moved) i }))
     (λ (q : v ≤ x).
     rw (le-ltb (headOf (x ∷ s)) v (rw (head-cons x s) q), searched)
-    (λ i. record { label = l; bins = sym (Rattle.model.proofs.From.from-stop v x s q) i }))
+    (λ i. record { label = l; weight = w; bins = sym (Rattle.model.proofs.From.from-stop v x s q) i }))
     (lt-or-le x v)
 
 pub searched-at : (f v : ℕ) (rs : List Run) → Rising rs → f ≤ v → v ≤ pastBin → map (searched v) (at f rs) ≡ at v rs
@@ -112,17 +111,17 @@ searched-at f v rs g l h =
     map-map (searched v) (fromRun f) rs
     ∙ map-same _ _ rs
     (λ r m.
-    searched-bins v (r .label) (from f (r .bins)) (rise-from f (r .bins) (g .each r m)) h
-    ∙ λ i. record { label = r .label; bins = from-from f v (r .bins) l i })
+    searched-bins v (r .label) (r .weight) (from f (r .bins)) (rise-from f (r .bins) (g .each r m)) h
+    ∙ λ i. record { label = r .label; weight = r .weight; bins = from-from f v (r .bins) l i })
 
 -- past an answer v every run is at its numbers from v + 1 on
-moved-bins : (v l : ℕ) (s : List ℕ) → Rise v s → v < pastBin
-    → movedOn v (record { label = l; bins = s }) ≡ record { label = l; bins = from (suc v) s }
+moved-bins : (v l w : ℕ) (s : List ℕ) → Rise v s → v < pastBin
+    → movedOn v (record { label = l; weight = w; bins = s }) ≡ record { label = l; weight = w; bins = from (suc v) s }
 unfolding movedOn head
-moved-bins v l s g h =
+moved-bins v l w s g h =
     ⊎-elim
-    (λ (q : headOf s ≡ v). rw (eq-eqb (headOf s) v q, movedOn) (λ i. record { label = l; bins = from-past-head g q h i }))
-    (λ (q : headOf s ≢ v). rw (ne-eqb (headOf s) v q, movedOn) (λ i. record { label = l; bins = sym (from-other-head g q) i }))
+    (λ (q : headOf s ≡ v). rw (eq-eqb (headOf s) v q, movedOn) (λ i. record { label = l; weight = w; bins = from-past-head g q h i }))
+    (λ (q : headOf s ≢ v). rw (ne-eqb (headOf s) v q, movedOn) (λ i. record { label = l; weight = w; bins = sym (from-other-head g q) i }))
     (eq-or-ne (headOf s) v)
 
 pub moved-at : (v : ℕ) (rs : List Run) → Rising rs → v < pastBin → map (movedOn v) (at v rs) ≡ at (suc v) rs
@@ -131,12 +130,12 @@ moved-at v rs g h =
     map-map (movedOn v) (fromRun v) rs
     ∙ map-same _ _ rs
     (λ r m.
-    moved-bins v (r .label) (from v (r .bins)) (rise-from v (r .bins) (g .each r m)) h
-    ∙ λ i. record { label = r .label; bins = from-from v (suc v) (r .bins) (omega arith) i })
+    moved-bins v (r .label) (r .weight) (from v (r .bins)) (rise-from v (r .bins) (g .each r m)) h
+    ∙ λ i. record { label = r .label; weight = r .weight; bins = from-from v (suc v) (r .bins) (omega arith) i })
 
--- v is the t-th smallest head at the floor f
+-- v is the least head at the floor f such that the runs whose heads are not above it weigh enough
 pub record Ahead (rs : List Run) (t f v : ℕ) : Type 0 where
-  pub tth : tthHead t (at f rs) ≡ v
+  pub least : enoughHead t (at f rs) ≡ v
   pub floor : f ≤ v
   pub bin : v < pastBin
   pub enough : t ≤ atMost v (at f rs)
@@ -149,7 +148,7 @@ gapAt rs f v last = gap f last (mask (λ r. leb v (head r)) (at f rs))
 unfoldable pub answerAt : List Run → ℕ → Part
 answerAt rs v = answer v (mask (λ r. eqb (head r) v) (at v rs))
 
--- The ways that a walk from a floor f goes: it is over; too few runs have a head; it passes v with no answer there; it finds v an answer, after a gap or
+-- The ways that a walk from a floor f goes: it is over; the runs with a head weigh too little; it passes v with no answer there; it finds v an answer, after a gap or
 -- at the floor itself.
 pub data Walked (rs : List Run) (t : ℕ) : ℕ → List Event → Type 0 where
   over : {f : ℕ} → f ≡ pastBin → Walked rs t f []
@@ -171,7 +170,7 @@ no-searches v (r ∷ rs) h =
 pub all-equal : (f : ℕ) (rs : List Run) → ((r : Run) → List·Memᴰ r rs → f ≤ head r) → atMost f rs ≤ equal f rs
 unfolding atMost equal
 all-equal f rs h =
-    count-le _ _ rs (λ r m q. let i = leb-true (head r) f q in let j = h r m in eq-eqb (head r) f (omega arith))
+    weight-le _ _ rs (λ r m q. let i = leb-true (head r) f q in let j = h r m in eq-eqb (head r) f (omega arith))
 
 -- the ways that a round goes on, after the searches
 pub settled-hit : (next : ℕ → List Run → List Event) (t v : ℕ) (rs : List Run) → t ≤ equal v (at v rs) → v < lastBin
@@ -179,51 +178,51 @@ pub settled-hit : (next : ℕ → List Run → List Event) (t v : ℕ) (rs : Lis
 unfolding settle equal answerAt
 settled-hit next t v rs h l =
     let n : v ≢ lastBin = omega arith in
-    rw (le-leb t (count (λ r. eqb (head r) v) (at v rs)) h, ne-eqb v lastBin n, settle)
+    rw (le-leb t (weightOf (λ r. eqb (head r) v) (at v rs)) h, ne-eqb v lastBin n, settle)
 
 pub settled-last : (next : ℕ → List Run → List Event) (t v : ℕ) (rs : List Run) → t ≤ equal v (at v rs) → v ≡ lastBin
     → settle next t v (at v rs) ≡ wrote (answerAt rs v) ∷ []
 unfolding settle equal answerAt
 settled-last next t v rs h l =
-    rw (le-leb t (count (λ r. eqb (head r) v) (at v rs)) h, eq-eqb v lastBin l, settle)
+    rw (le-leb t (weightOf (λ r. eqb (head r) v) (at v rs)) h, eq-eqb v lastBin l, settle)
 
 pub settled-pass : (next : ℕ → List Run → List Event) (t v : ℕ) (rs : List Run) → equal v (at v rs) < t
     → settle next t v (at v rs) ≡ next v (at v rs)
 unfolding settle equal
-settled-pass next t v rs h = rw (lt-leb t (count (λ r. eqb (head r) v) (at v rs)) h, settle)
+settled-pass next t v rs h = rw (lt-leb t (weightOf (λ r. eqb (head r) v) (at v rs)) h, settle)
 
--- a round with too few heads, and one with heads enough
+-- a round where the runs with a head weigh too little, and one where they weigh enough
 pub round-stop : (next : ℕ → List Run → List Event) (t f : ℕ) (rs : List Run) → below pastBin (at f rs) < t
     → round next t f (at f rs) ≡ wrote (gapAt rs f pastBin lastBin) ∷ []
 unfolding round below gapAt
-round-stop next t f rs h = rw (lt-ltb (count (λ r. ltb (head r) pastBin) (at f rs)) t h, round)
+round-stop next t f rs h = rw (lt-ltb (weightOf (λ r. ltb (head r) pastBin) (at f rs)) t h, round)
 
-pub round-gap : (next : ℕ → List Run → List Event) (t f : ℕ) (rs : List Run) → t ≤ below pastBin (at f rs) → f < tthHead t (at f rs)
+pub round-gap : (next : ℕ → List Run → List Event) (t f : ℕ) (rs : List Run) → t ≤ below pastBin (at f rs) → f < enoughHead t (at f rs)
     → round next t f (at f rs)
-    ≡ wrote (gapAt rs f (tthHead t (at f rs)) (tthHead t (at f rs) - 1))
-    ∷ (searches (tthHead t (at f rs)) (at f rs) ++ settle next t (tthHead t (at f rs)) (map (searched (tthHead t (at f rs))) (at f rs)))
+    ≡ wrote (gapAt rs f (enoughHead t (at f rs)) (enoughHead t (at f rs) - 1))
+    ∷ (searches (enoughHead t (at f rs)) (at f rs) ++ settle next t (enoughHead t (at f rs)) (map (searched (enoughHead t (at f rs))) (at f rs)))
 unfolding round below gapAt
 round-gap next t f rs h l =
-    rw (le-ltb (count (λ r. ltb (head r) pastBin) (at f rs)) t h, round) (rw (lt-ltb f (tthHead t (at f rs)) l))
+    rw (le-ltb (weightOf (λ r. ltb (head r) pastBin) (at f rs)) t h, round) (rw (lt-ltb f (enoughHead t (at f rs)) l))
 
-pub round-here : (next : ℕ → List Run → List Event) (t f : ℕ) (rs : List Run) → t ≤ below pastBin (at f rs) → tthHead t (at f rs) ≡ f
+pub round-here : (next : ℕ → List Run → List Event) (t f : ℕ) (rs : List Run) → t ≤ below pastBin (at f rs) → enoughHead t (at f rs) ≡ f
     → round next t f (at f rs) ≡ searches f (at f rs) ++ settle next t f (map (searched f) (at f rs))
 unfolding round below
 round-here next t f rs h e =
-    rw (le-ltb (count (λ r. ltb (head r) pastBin) (at f rs)) t h, round) (rw (e, le-ltb f f (omega arith)))
+    rw (le-ltb (weightOf (λ r. ltb (head r) pastBin) (at f rs)) t h, round) (rw (e, le-ltb f f (omega arith)))
 
--- the t-th smallest head at a floor, where heads enough are left
-ahead : (rs : List Run) (t f : ℕ) → Rising rs → 0 < t → t ≤ length rs → f < pastBin → t ≤ below pastBin (at f rs)
-    → Ahead rs t f (tthHead t (at f rs))
+-- that head at a floor, where the runs with a head weigh enough
+ahead : (rs : List Run) (t f : ℕ) → Rising rs → 0 < t → t ≤ weightOfAll rs → f < pastBin → t ≤ below pastBin (at f rs)
+    → Ahead rs t f (enoughHead t (at f rs))
 ahead rs t f g p k l h =
-    let few = tth-few t (at f rs) p in
-    let small = tth-past t (at f rs) in
-    let size = at-length f rs in
+    let few = enough-few t (at f rs) p in
+    let small = enough-past t (at f rs) in
+    let size = at-weight f rs in
     record {
-      tth = refl;
-      floor = tth-ge t f (at f rs) (omega arith) (at-least f rs g (omega arith));
-      bin = before-past (tthHead t (at f rs)) small few;
-      enough = tth-enough t (at f rs) (at-heads f rs g) (omega arith);
+      least = refl;
+      floor = enough-ge t f (at f rs) (omega arith) (at-least f rs g (omega arith));
+      bin = before-past (enoughHead t (at f rs)) small few;
+      enough = enough-reached t (at f rs) (at-heads f rs g) (omega arith);
       few = few;
     }
   where
@@ -253,7 +252,7 @@ answered rs t n u g l q next =
     (lt-or-le (suc u) pastBin)
 
 -- Every walk goes one of the ways, with as many rounds as there are bins from its floor on.
-pub walked : (rs : List Run) (t : ℕ) → Rising rs → 0 < t → t ≤ length rs → (n f : ℕ) → f < pastBin → pastBin ≤ f + n
+pub walked : (rs : List Run) (t : ℕ) → Rising rs → 0 < t → t ≤ weightOfAll rs → (n f : ℕ) → f < pastBin → pastBin ≤ f + n
     → Walked rs t f (walk n t f (at f rs))
 unfolding walk
 walked rs t g p k zero f l m = absurd (omega arith)
@@ -264,7 +263,7 @@ walked rs t g p k (suc n) f l m =
     (lt-or-le (below pastBin (at f rs)) t)
   where
     v : ℕ
-    v = tthHead t (at f rs)
+    v = enoughHead t (at f rs)
 
     Next : Type 0
     Next = (u : ℕ) → u < pastBin → pastBin ≤ u + n → Walked rs t u (walk n t u (at u rs))

@@ -1,12 +1,11 @@
 -- docs/SPECIFICATION.md, 'The certificate': parts, their bytes, the reading of a field, and when a certificate is true. Definitions only.
 use Prim.Native.Nat.{ℕ, zero, suc, _+_, _-_, _*_, _/_, _%_, _≤_, _<_}
-use mathlib.Core.Bool.{Bool, true, false, _&&_}
+use mathlib.Core.Bool.{Bool, true, false, _&&_, not}
 use mathlib.Core.List.{List, [], _∷_, _++_, List·Memᴰ}
 use mathlib.Core.Path.{_≡_}
-use lib.Count.{ones}
 use lib.Dec.{ltb, leb, eqb}
 use lib.ListN.{length, getD, take, drop}
-use Rattle.model.specs.Runs.{Run, firstBin, pastBin, bit, names}
+use Rattle.model.specs.Runs.{Run, firstBin, pastBin, weightOf, bit, names}
 
 -- A part: an answer with its value and mask, a gap with its first and last bin and its mask.
 pub data Part : Type 0 where
@@ -89,16 +88,17 @@ pub data Covers : ℕ → List Part → Type 0 where
 abbrev pub NamesOnly : ℕ → List Run → Type 0
 NamesOnly m rs = (i : ℕ) → bit m i ≡ 1 → (r : Run) × List·Memᴰ r rs × (r .label ≡ i)
 
--- Of k runs, every mask names only these, a gap names at least k − t + 1 of them and none that it names has a number in it.
+-- Every mask names only runs of these. Of a gap, the runs that it does not name weigh less than t, and none that it names has a number in it. (Of k runs that
+-- weigh 1 each, it names at least k − t + 1: specs/Plain.)
 pub record TrueGap (rs : List Run) (t first last m : ℕ) : Type 0 where
   pub only : NamesOnly m rs
-  pub enough : length rs - t + 1 ≤ ones m
+  pub unnamed : weightOf (λ r. not (names m r)) rs < t
   pub misses : (r : Run) → List·Memᴰ r rs → names m r ≡ true → (x : ℕ) → List·Memᴰ x (r .bins) → first ≤ x → x ≤ last → ⊥
 
--- An answer names at least t runs and each of these has it.
+-- The runs that an answer names weigh at least t, and each of these has it.
 pub record TrueAnswer (rs : List Run) (t value m : ℕ) : Type 0 where
   pub only : NamesOnly m rs
-  pub enough : t ≤ ones m
+  pub enough : t ≤ weightOf (names m) rs
   pub has : (r : Run) → List·Memᴰ r rs → names m r ≡ true → List·Memᴰ value (r .bins)
 
 pub data TruePart (rs : List Run) (t : ℕ) : Part → Type 0 where

@@ -7,8 +7,8 @@ use mathlib.Core.Path.{_≡_}
 use lib.ListN.{length, take}
 use Rattle.model.specs.Certificate.{Part, answersOf, encode, TrueCertificate}
 use Rattle.model.specs.Compared.{wholeWalk, wholeCertificate, doublingsIn, halvingsIn, probesIn, boundIn, bound}
-use Rattle.model.specs.Refusals.{passed, firstChecks, cutWalk, Outcome, accepted, refused, Verdict, valid}
-use Rattle.model.specs.Runs.{Run, runs, unrisen, holds, total, count}
+use Rattle.model.specs.Refusals.{Check, passed, cutWalk, Outcome, accepted, refused, Verdict, valid}
+use Rattle.model.specs.Runs.{Run, unrisen, holds, total, weightOf}
 use Rattle.model.specs.Walk.{Event}
 
 -- A lent row of 32-bit numbers, a lent row of bytes: each of its numbers is below w.
@@ -41,9 +41,9 @@ unfoldable pub refusedBy : Outcome → ℕ
 refusedBy (accepted a n b d h) = 0
 refusedBy (refused x n a b d h) = x
 
--- The answers are all the bins held by at least t lists, and no others, rising, each once.
+-- The answers are all the bins held by lists that weigh at least t, and no others, rising, each once. (Where every list weighs 1, by at least t lists.)
 pub record Exact (rs : List Run) (t : ℕ) (answers : List ℕ) : Type 0 where
-  pub all-held : (x : ℕ) → List·Memᴰ x answers ↔ (t ≤ count (λ r. holds x (r .bins)) rs)
+  pub all-held : (x : ℕ) → List·Memᴰ x answers ↔ (t ≤ weightOf (λ r. holds x (r .bins)) rs)
   pub rising : unrisen 0 answers ≡ none
 
 -- Bytes are a true certificate: they are the fields of parts that are true.
@@ -51,7 +51,7 @@ abbrev pub TrueBytes : List Run → ℕ → List ℕ → Type 0
 TrueBytes rs t bytes = (ps : List Part) × TrueCertificate rs t ps × (bytes ≡ encode ps)
 
 -- Demand 2 for a walk, which a refusal of this number ended, 0 where none did, after so many parts, and which wrote these answers and bytes. When it reaches
--- its end, the answers are all the bins held by at least t lists, and no others, rising, each once. The certificate beside them is true. A walk that stops
+-- its end, the answers are all the bins held by lists that weigh at least t, and no others, rising, each once. The certificate beside them is true. A walk that stops
 -- early has written the first parts of that same certificate and their answers.
 pub record Certified (rs : List Run) (t number parts : ℕ) (answers bytes : List ℕ) : Type 0 where
   pub exact : number ≡ 0 → Exact rs t answers
@@ -62,10 +62,9 @@ pub record Certified (rs : List Run) (t number parts : ℕ) (answers bytes : Lis
   pub written : bytes ≡ encode (take parts (wholeCertificate t rs))
   pub answered : answers ≡ answersOf (take parts (wholeCertificate t rs))
 
--- Demand 2 for a question: of its outcome, and of what then stands in its buffers.
-pub record Demand2 (numbers ends : List ℕ) (t : ℕ) (o : Outcome) (answers certificate : List ℕ) : Type 0 where
-  pub for-every : firstChecks numbers ends t ≡ passed
-      → Certified (runs numbers ends) t (refusedBy o) (partsIn o) (take (answersIn o) answers) (take (bytesIn o) certificate)
+-- Demand 2 for a question over these runs with these first checks: of its outcome, and of what then stands in its buffers.
+pub record Demand2 (c : Check) (rs : List Run) (t : ℕ) (o : Outcome) (answers certificate : List ℕ) : Type 0 where
+  pub for-every : c ≡ passed → Certified rs t (refusedBy o) (partsIn o) (take (answersIn o) answers) (take (bytesIn o) certificate)
 
 -- Demand 2 for the checker: it accepts a certificate, whoever wrote it, if it is true and only then; the counts are the certificate's.
 pub record Accepts (rs : List Run) (t : ℕ) (certificate : List ℕ) (v : Verdict) : Type 0 where
@@ -88,9 +87,8 @@ pub record Bounded (rs : List Run) (t allowance : ℕ) (done : List Event) (numb
   pub halving-sum : halvings ≡ total (λ r. halvingsIn (r .label) done) rs
   pub enough : bound d rs ≤ allowance → number ≢ 7
 
--- Demand 3 whole: for all lists and every threshold that pass the first checks, for every true certificate of them, whoever wrote it, and whatever
--- allowance and buffers our walk is lent. The outcome and the certificate buffer after the call are the call's own.
-pub record Demand3 (numbers ends : List ℕ) (t allowance : ℕ) (answers before : List ℕ) (o : Outcome) (after : List ℕ) : Type 0 where
-  pub for-every : firstChecks numbers ends t ≡ passed → (ps : List Part) → TrueCertificate (runs numbers ends) t ps
-      → Bounded (runs numbers ends) t allowance (cutWalk t (runs numbers ends) allowance (length answers) (length before) .events)
-      (refusedBy o) (partsIn o) (doublingsMade o) (halvingsMade o) (take (bytesIn o) after) (length ps)
+-- Demand 3 whole: for all lists and every threshold that pass the first checks, with weights or without, for every true certificate of them, whoever wrote it,
+-- and whatever allowance and buffers our walk is lent. The outcome and the certificate buffer after the call are the call's own.
+pub record Demand3 (c : Check) (rs : List Run) (t allowance : ℕ) (answers before : List ℕ) (o : Outcome) (after : List ℕ) : Type 0 where
+  pub for-every : c ≡ passed → (ps : List Part) → TrueCertificate rs t ps
+      → Bounded rs t allowance (cutWalk t rs allowance (length answers) (length before) .events) (refusedBy o) (partsIn o) (doublingsMade o) (halvingsMade o) (take (bytesIn o) after) (length ps)

@@ -1,5 +1,5 @@
 -- docs/SPECIFICATION.md, 'Instances': the starred ones, with one that tells rounding the halving place down from rounding it up, some that tell the two
--- kinds of probes and some with unmapped marks.
+-- kinds of probes, some with unmapped marks and some with weights.
 -- Definitions only.
 use Prim.Native.Nat.{ℕ}
 use mathlib.Core.List.{List, [], _∷_, _++_, map}
@@ -8,7 +8,7 @@ use lib.ListN.{take, drop, replicate}
 use Rattle.model.specs.Between.{between}
 use Rattle.model.specs.Certificate.{Part, answer, gap, answersOf, encode}
 use Rattle.model.specs.Many.{ManyOutcome, all-accepted, refused-in, AnsweredMany, queryMany}
-use Rattle.model.specs.Refusals.{Outcome, accepted, refused, Answered, over, query, valid, invalid, check}
+use Rattle.model.specs.Refusals.{Outcome, accepted, refused, Answered, over, query, queryWeighted, Verdict, valid, invalid, check, checkWeighted}
 
 -- A question, and what it returns and writes. Its buffers are large enough: 8 answers and 128 bytes, of zeros.
 pub record Instance : Type 0 where
@@ -259,9 +259,67 @@ unmappedMany =
       reached = 1 ∷ 53 ∷ 3 ∷ 140 ∷ 4 ∷ 193 ∷ [];
     }
 
+-- A question with weights, its threshold being the wanted weight.
+pub record WeightedInstance : Type 0 where
+  pub weights : List ℕ
+  pub question : Instance
+
+unfoldable pub askedWeighted : WeightedInstance → Answered
+askedWeighted i =
+    let q = i .question in
+    queryWeighted (q .numbers) (q .ends) (i .weights) (q .threshold) (q .allowance) (replicate 8 0) (replicate 128 0)
+
+unfoldable pub expectedWeighted : WeightedInstance → Answered
+expectedWeighted i = expected (i .question)
+
+-- the runs of the listing with weights and a wanted weight
+unfoldable pub weightedListing : List ℕ → ℕ → ℕ → Outcome → List Part → WeightedInstance
+weightedListing weights wanted allowance o ps =
+    record { weights = weights; question = limited allowance listingNumbers listingEnds wanted o ps }
+
+-- {1, 4}, {2, 4} and {3, 4} with weights 1, 2 and 3
+unfoldable pub oneTwoThree : ℕ → Outcome → List Part → WeightedInstance
+oneTwoThree wanted o ps =
+    record { weights = 1 ∷ 2 ∷ 3 ∷ []; question = instance (1 ∷ 4 ∷ 2 ∷ 4 ∷ 3 ∷ 4 ∷ []) (2 ∷ 4 ∷ 6 ∷ []) wanted o ps }
+
+-- the parts of the listing where the first run weighs 3, the others 1, and 3 is wanted
+unfoldable pub heavyParts : List Part
+heavyParts =
+    gap 1 1 3 ∷ answer 2 1 ∷ gap 3 4 7 ∷ answer 5 3 ∷ gap 6 8 5 ∷ answer 9 7 ∷ gap 10 4294967295 5 ∷ []
+
+-- Runs that the first checks refuse, with weights: 1 before 17, the length of the row before its weights, 17 before 2, 2 before 3 and 4.
+unfoldable pub refusedWeighted : List ℕ → List ℕ → List ℕ → ℕ → Outcome → WeightedInstance
+refusedWeighted numbers ends weights wanted o = record { weights = weights; question = instance numbers ends wanted o [] }
+
+unfoldable pub withWeights : List WeightedInstance
+withWeights =
+    weightedListing (3 ∷ 1 ∷ 1 ∷ []) 3 2 (accepted 3 7 121 2 0) heavyParts ∷
+    weightedListing (3 ∷ 1 ∷ 1 ∷ []) 3 1 (refused 7 5 2 87 1 0) (take 5 heavyParts) ∷
+    weightedListing (3 ∷ 1 ∷ 1 ∷ []) 4 3 (accepted 2 6 106 3 0) listingParts ∷
+    weightedListing (1 ∷ 1 ∷ 1 ∷ []) 2 3 (accepted 2 6 106 3 0) listingParts ∷
+    weightedListing (255 ∷ 255 ∷ 255 ∷ []) 256 3 (accepted 2 6 106 3 0) listingParts ∷
+    weightedListing (1 ∷ 1 ∷ 1 ∷ []) 2 2 (refused 7 4 1 72 2 0) (take 4 listingParts) ∷
+    oneTwoThree 3 (accepted 2 5 87 2 0) (gap 1 1 6 ∷ gap 2 2 5 ∷ answer 3 4 ∷ answer 4 7 ∷ gap 5 4294967295 7 ∷ []) ∷
+    oneTwoThree 6 (accepted 1 4 72 3 0) (gap 1 2 4 ∷ gap 3 3 3 ∷ answer 4 7 ∷ gap 5 4294967295 7 ∷ []) ∷
+    oneTwoThree 7 (refused 2 7 0 0 0 0) [] ∷
+    refusedWeighted (7 ∷ 7 ∷ []) (1 ∷ 2 ∷ []) (1 ∷ []) 1 (refused 17 2 0 0 0 0) ∷
+    refusedWeighted (7 ∷ 7 ∷ []) (1 ∷ 2 ∷ []) [] 1 (refused 17 2 0 0 0 0) ∷
+    refusedWeighted (7 ∷ 7 ∷ []) (1 ∷ 2 ∷ []) (0 ∷ 1 ∷ 1 ∷ []) 1 (refused 17 2 0 0 0 0) ∷
+    refusedWeighted (7 ∷ 7 ∷ []) (1 ∷ 2 ∷ []) (0 ∷ 256 ∷ []) 1 (refused 17 0 0 0 0 0) ∷
+    refusedWeighted (7 ∷ 7 ∷ []) (1 ∷ 2 ∷ []) (1 ∷ 256 ∷ []) 9 (refused 17 1 0 0 0 0) ∷
+    refusedWeighted (7 ∷ 7 ∷ []) (1 ∷ 2 ∷ []) (1 ∷ 255 ∷ []) 257 (refused 2 257 0 0 0 0) ∷
+    refusedWeighted (7 ∷ 7 ∷ []) (1 ∷ 2 ∷ []) (1 ∷ 255 ∷ []) 0 (refused 2 0 0 0 0 0) ∷
+    refusedWeighted [] [] [] 1 (refused 1 0 0 0 0 0) ∷
+    refusedWeighted (5 ∷ 5 ∷ []) (3 ∷ 2 ∷ []) (1 ∷ 1 ∷ []) 3 (refused 2 3 0 0 0 0) ∷
+    refusedWeighted (5 ∷ 5 ∷ []) (3 ∷ 2 ∷ []) (1 ∷ 1 ∷ []) 2 (refused 3 1 0 0 0 0) ∷
+    []
+
 -- The claims: each instance is answered as expected.
 pub record AsExpected (is : List Instance) : Type 0 where
   pub same : map asked is ≡ map expected is
+
+pub record WeightedAsExpected (is : List WeightedInstance) : Type 0 where
+  pub same : map askedWeighted is ≡ map expectedWeighted is
 
 pub record ManyAsExpected (is : List ManyInstance) : Type 0 where
   pub same : map askedMany is ≡ map expectedMany is
@@ -278,3 +336,20 @@ pub record Unmapped : Type 0 where
   pub from-0 : check listingNumbers listingEnds 2 (encode (gap 0 1 3 ∷ drop 1 listingParts)) ≡ invalid 9 0 0 0
   pub judged-alike : check (0 ∷ 0 ∷ 5 ∷ []) (3 ∷ []) 1 (encode (gap 1 4 1 ∷ answer 5 1 ∷ gap 6 4294967295 1 ∷ [])) ≡ valid 1 3
   pub refused-alike : check (0 ∷ 0 ∷ 5 ∷ []) (3 ∷ []) 1 (encode (gap 1 4294967295 1 ∷ [])) ≡ invalid 11 0 0 0
+
+-- The runs of the listing, of which the first weighs 3 and the others 1, wanted 3: a certificate is judged by what runs weigh and not by how many they are. In a gap
+-- the first run may be left out alone only where less is wanted, and an answer may name it alone.
+unfoldable pub judgedWeighted : ℕ → List Part → Verdict
+judgedWeighted wanted ps = checkWeighted listingNumbers listingEnds (3 ∷ 1 ∷ 1 ∷ []) wanted (encode ps)
+
+pub record Judged : Type 0 where
+  pub of-the-walk : judgedWeighted 3 heavyParts ≡ valid 3 7
+  pub by-number : check listingNumbers listingEnds 3 (encode heavyParts) ≡ invalid 10 19 0 0
+  pub of-the-listing : judgedWeighted 4 listingParts ≡ valid 2 6
+  pub left-out : judgedWeighted 3 (gap 1 1 2 ∷ drop 1 heavyParts) ≡ invalid 10 0 0 0
+  pub left-out-enough : judgedWeighted 4 (gap 1 1 1 ∷ drop 1 listingParts) ≡ valid 2 6
+  pub too-light : judgedWeighted 4 heavyParts ≡ invalid 10 19 0 0
+  pub no-run : judgedWeighted 3 (gap 1 1 11 ∷ drop 1 heavyParts) ≡ invalid 10 0 0 0
+  pub row : checkWeighted listingNumbers listingEnds (3 ∷ 1 ∷ []) 3 (encode heavyParts) ≡ invalid 17 3 0 0
+  pub weight : checkWeighted listingNumbers listingEnds (3 ∷ 1 ∷ 256 ∷ []) 3 (encode heavyParts) ≡ invalid 17 2 0 0
+  pub too-much : judgedWeighted 6 heavyParts ≡ invalid 2 6 0 0

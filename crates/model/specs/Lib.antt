@@ -5,6 +5,7 @@ pub mod Demands
 pub mod Instances
 pub mod Many
 pub mod ManyDemands
+pub mod Plain
 pub mod Refusals
 pub mod Rows
 pub mod Runs

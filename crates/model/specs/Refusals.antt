@@ -6,12 +6,12 @@ use mathlib.Core.List.{List, [], _∷_, _++_}
 use mathlib.Core.Option.{Option, none, some}
 use lib.Bits.{bitAnd}
 use lib.Count.{ones}
-use lib.Dec.{ltb, eqb}
+use lib.Dec.{ltb, leb, eqb}
 use lib.ListN.{length, drop}
 use Rattle.model.specs.Certificate.{Part, answer, gap, firstOf, lastOf, answersOf, encode, sizeOf, unreadable, read, readField}
 use Rattle.model.specs.Compared.{wholeWalk, partsOf, doublingsOf, halvingsOf}
 use Rattle.model.specs.Between.{within}
-use Rattle.model.specs.Runs.{Run, firstBin, pastBin, slice, runs, unrisenRun, holds, maskOfAll, names, chosen, mostRuns, mostNumbers}
+use Rattle.model.specs.Runs.{Run, firstBin, pastBin, slice, runs, unrisenRun, holds, weighted, weightOf, maskOfAll, names, chosen, mostRuns, mostNumbers, mostWeight}
 use Rattle.model.specs.Walk.{Event, sought, doubled, halved, wrote}
 
 -- A check is passed or is refused with the refusal's number and place. Checks are made in order, and the first one met decides.
@@ -52,9 +52,21 @@ unrisenIn a numbers (e ∷ ends) = elim (unrisenRun a (slice numbers a e)) [ som
 unfoldable pub countCheck : List ℕ → Check
 countCheck ends = refuseIf (eqb (length ends) 0 || ltb mostRuns (length ends)) 1 (length ends)
 
--- 2: the threshold is 0 or above the number of the runs asked about.
+-- 17: the row of weights has not k weights, place k; else, a weight is outside 1 to 255: its index, the first such. (Here: i is the index of the first of them.)
+unfoldable pub misweighed : ℕ → List ℕ → Option ℕ
+misweighed i [] = none
+misweighed i (w ∷ weights) = elim (eqb w 0 || ltb mostWeight w) [ true ↦ some i | false ↦ misweighed (suc i) weights ]
+
+unfoldable pub weightsCheck : ℕ → List ℕ → Check
+weightsCheck k weights = refuseIf (not (eqb (length weights) k)) 17 k then refuseAt 17 (misweighed 0 weights)
+
+-- 2: the threshold is 0 or above the number of the runs asked about, or the wanted weight 0 or above what they weigh together.
 unfoldable pub thresholdCheck : ℕ → ℕ → ℕ → Check
-thresholdCheck k t place = refuseIf (eqb t 0 || ltb k t) 2 place
+thresholdCheck most t place = refuseIf (eqb t 0 || ltb most t) 2 place
+
+unfoldable pub sumOfWeights : List ℕ → ℕ
+sumOfWeights [] = 0
+sumOfWeights (w ∷ weights) = w + sumOfWeights weights
 
 -- 3: an end is below the one before; else, the last end is not the length of the numbers, or that is above 1,048,576. 4: a run does not rise.
 unfoldable pub listChecks : List ℕ → List ℕ → Check
@@ -70,6 +82,11 @@ maskCheck k m place = refuseIf (eqb m 0 || not (eqb (m / 2 ^ k) 0)) 13 place
 -- The first checks of a question over all runs, in the order of the table.
 unfoldable pub firstChecks : List ℕ → List ℕ → ℕ → Check
 firstChecks numbers ends t = countCheck ends then thresholdCheck (length ends) t t then listChecks numbers ends
+
+-- Those of a question over all runs with weights: 17 right after 1, and the wanted weight is held against the sum of the weights.
+unfoldable pub weightedChecks : List ℕ → List ℕ → List ℕ → ℕ → Check
+weightedChecks numbers ends weights wanted =
+    countCheck ends then weightsCheck (length ends) weights then thresholdCheck (sumOfWeights weights) wanted wanted then listChecks numbers ends
 
 -- Those over the runs that a mask chooses: the threshold is held against the ones in the mask.
 unfoldable pub chosenChecks : List ℕ → List ℕ → ℕ → ℕ → Check
@@ -141,11 +158,12 @@ outcomeOf e =
     let h = halvingsOf (e .events) in
     elim (e .refused) [ zero ↦ accepted a (length ps) b d h | suc n ↦ refused (suc n) (length ps) a b d h ]
 
-unfoldable pub query : List ℕ → List ℕ → ℕ → ℕ → List ℕ → List ℕ → Answered
-query numbers ends t allowance answers certificate =
-    elim (firstChecks numbers ends t) [
+-- what a question over these runs comes to, with its first checks
+unfoldable pub answeredBy : Check → List Run → ℕ → ℕ → List ℕ → List ℕ → Answered
+answeredBy c rs t allowance answers certificate =
+    elim c [
       | passed ↦
-          let e = cutWalk t (runs numbers ends) allowance (length answers) (length certificate) in
+          let e = cutWalk t rs allowance (length answers) (length certificate) in
           record {
             outcome = outcomeOf e;
             answers = over (answersOf (partsOf (e .events))) answers;
@@ -153,6 +171,14 @@ query numbers ends t allowance answers certificate =
           }
       | refusal n p ↦ record { outcome = refused n p 0 0 0 0; answers = answers; certificate = certificate }
     ]
+
+-- A question is put to the runs with a threshold, or with weights and a wanted weight.
+unfoldable pub query : List ℕ → List ℕ → ℕ → ℕ → List ℕ → List ℕ → Answered
+query numbers ends t allowance answers certificate = answeredBy (firstChecks numbers ends t) (runs numbers ends) t allowance answers certificate
+
+unfoldable pub queryWeighted : List ℕ → List ℕ → List ℕ → ℕ → ℕ → List ℕ → List ℕ → Answered
+queryWeighted numbers ends weights wanted allowance answers certificate =
+    answeredBy (weightedChecks numbers ends weights wanted) (weighted weights (runs numbers ends)) wanted allowance answers certificate
 
 -- The checker returns the counts of answers and parts, both zero on a refusal.
 pub data Verdict : Type 0 where
@@ -163,13 +189,14 @@ pub data Verdict : Type 0 where
 unfoldable pub misplaced : ℕ → Part → Bool
 misplaced b p = not (eqb (firstOf p) b) || (ltb (lastOf p) (firstOf p) || eqb b pastBin)
 
--- Refusal 10: the mask names a run that is none of these, or too few.
+-- Refusal 10: the mask names a run that is none of these, or the runs that it names, for an answer, weigh too little, or those that it leaves out, for a gap,
+-- too much.
 unfoldable pub namesOther : List Run → ℕ → Bool
 namesOther rs m = not (eqb (bitAnd m (maskOfAll rs)) m)
 
 unfoldable pub misnamed : List Run → ℕ → Part → Bool
-misnamed rs t (answer v m) = namesOther rs m || ltb (ones m) t
-misnamed rs t (gap f l m) = namesOther rs m || ltb (ones m) (length rs - t + 1)
+misnamed rs t (answer v m) = namesOther rs m || ltb (weightOf (names m) rs) t
+misnamed rs t (gap f l m) = namesOther rs m || leb t (weightOf (λ r. not (names m r)) rs)
 
 -- Refusal 11: a named run contradicts the part.
 unfoldable pub contradicts : Part → Run → Bool
@@ -215,9 +242,13 @@ unfoldable pub judged : Check → List Run → ℕ → List ℕ → Verdict
 judged c rs t certificate =
     elim c [ passed ↦ checkFrom (length certificate) rs t firstBin 0 certificate | refusal n p ↦ invalid n p 0 0 ]
 
--- The checker judges by all runs, or by those alone that a mask chooses.
+-- The checker judges by all runs, by those alone that a mask chooses, or by all runs with weights.
 unfoldable pub check : List ℕ → List ℕ → ℕ → List ℕ → Verdict
 check numbers ends t certificate = judged (firstChecks numbers ends t) (runs numbers ends) t certificate
 
 unfoldable pub checkChosen : List ℕ → List ℕ → ℕ → ℕ → List ℕ → Verdict
 checkChosen numbers ends m t certificate = judged (chosenChecks numbers ends m t) (chosen m (runs numbers ends)) t certificate
+
+unfoldable pub checkWeighted : List ℕ → List ℕ → List ℕ → ℕ → List ℕ → Verdict
+checkWeighted numbers ends weights wanted certificate =
+    judged (weightedChecks numbers ends weights wanted) (weighted weights (runs numbers ends)) wanted certificate

@@ -1,10 +1,10 @@
--- Lists and rows of numbers in order, runs counted by their heads, and searches cut short: terms in which the code's contracts speak. Definitions only.
+-- Lists and rows of numbers in order, runs weighed by their heads, and searches cut short: terms in which the code's contracts speak. Definitions only.
 use Prim.Native.Nat.{ℕ, suc, _≤_, _<_}
 use mathlib.Core.List.{List, [], _∷_}
 use lib.Dec.{ltb, eqb}
 use Rattle.model.specs.Compared.{halvingsOf}
 use Rattle.model.specs.Refusals.{cut}
-use Rattle.model.specs.Runs.{Run, pastBin, count}
+use Rattle.model.specs.Runs.{Run, pastBin, weightOf}
 use Rattle.model.specs.Walk.{Event, head}
 
 -- bins that rise, the first of them not below a
@@ -17,13 +17,13 @@ pub data Ordered : ℕ → List ℕ → Type 0 where
   ordered-nil : {a : ℕ} → Ordered a []
   ordered-cons : {a x : ℕ} {s : List ℕ} → a ≤ x → Ordered x s → Ordered a (x ∷ s)
 
--- how many heads are below h
+-- what the runs whose heads are below h weigh
 unfoldable pub below : ℕ → List Run → ℕ
-below h rs = count (λ r. ltb (head r) h) rs
+below h rs = weightOf (λ r. ltb (head r) h) rs
 
--- how many heads equal v
+-- what the runs whose heads equal v weigh
 unfoldable pub equal : ℕ → List Run → ℕ
-equal v rs = count (λ r. eqb (head r) v) rs
+equal v rs = weightOf (λ r. eqb (head r) v) rs
 
 -- the halving probes of searches that have n probes left
 unfoldable pub halvingsWithin : ℕ → List Event → ℕ

@@ -1,9 +1,9 @@
--- docs/SPECIFICATION.md, 'The lists': numbers and ends as runs, and masks over them. Definitions only.
+-- docs/SPECIFICATION.md, 'The lists' and 'Weights': numbers and ends as runs, what runs weigh, and masks over them. Definitions only.
 use Prim.Native.Nat.{ℕ, suc, _+_, _-_, _*_, _/_, _%_, _^_}
 use mathlib.Core.Bool.{Bool, true, false}
-use mathlib.Core.List.{List, [], _∷_}
+use mathlib.Core.List.{List, [], _∷_, map}
 use mathlib.Core.Option.{Option, none, some}
-use lib.ListN.{take, drop}
+use lib.ListN.{getD, take, drop}
 use lib.Dec.{ltb, eqb}
 
 -- A bin is a whole number from 1 to 4294967295: the first, the last, and the number after the last. 0 is no bin: it is the unmapped mark, which simulators
@@ -24,10 +24,11 @@ mostRuns = 64
 abbrev pub mostNumbers : ℕ
 mostNumbers = 1048576
 
--- A run is one rising list. The label is its number; the bins are its numbers after any zeros at its start and, where a walk has moved on, those from the
--- run's position on.
+-- A run is one rising list. The label is its number; the weight is what it counts for; the bins are its numbers after any zeros at its start and, where a walk
+-- has moved on, those from the run's position on.
 pub record Run : Type 0 where
   pub label : ℕ
+  pub weight : ℕ
   pub bins : List ℕ
 
 -- the numbers from a place on and before another
@@ -44,12 +45,12 @@ unfoldable pub rank : ℕ → List ℕ → ℕ
 rank v [] = 0
 rank v (x ∷ s) = elim (ltb x v) [ true ↦ suc (rank v s) | false ↦ 0 ]
 
--- Run 0 starts at place 0, and run i starts at the end of run i − 1. Any number of zeros at the start of a run is passed over. (Here: the runs from label i on,
--- the first of them from place a on.)
+-- Run 0 starts at place 0, and run i starts at the end of run i − 1. Any number of zeros at the start of a run is passed over. Where no weights are given, a run
+-- weighs 1. (Here: the runs from label i on, the first of them from place a on.)
 unfoldable pub runsFrom : ℕ → ℕ → List ℕ → List ℕ → List Run
 runsFrom i a numbers [] = []
 runsFrom i a numbers (e ∷ ends) =
-    record { label = i; bins = from firstBin (slice numbers a e) } ∷ runsFrom (suc i) e numbers ends
+    record { label = i; weight = 1; bins = from firstBin (slice numbers a e) } ∷ runsFrom (suc i) e numbers ends
 
 unfoldable pub runs : List ℕ → List ℕ → List Run
 runs numbers ends = runsFrom 0 0 numbers ends
@@ -72,7 +73,17 @@ unfoldable pub holds : ℕ → List ℕ → Bool
 holds x [] = false
 holds x (y ∷ s) = elim (eqb x y) [ true ↦ true | false ↦ holds x s ]
 
--- a sum over the runs, and the number of runs that pass a test
+-- A weight is a number from 1 to 255. The runs with the weights of a row, one for each run; 1 where the row has none.
+abbrev pub mostWeight : ℕ
+mostWeight = 255
+
+unfoldable pub weightedRun : List ℕ → Run → Run
+weightedRun weights r = record { label = r .label; weight = getD weights (r .label) 1; bins = r .bins }
+
+unfoldable pub weighted : List ℕ → List Run → List Run
+weighted weights rs = map (weightedRun weights) rs
+
+-- a sum over the runs
 unfoldable pub total : (Run → ℕ) → List Run → ℕ
 total g [] = 0
 total g (r ∷ rs) = g r + total g rs
@@ -81,8 +92,12 @@ unfoldable pub one : Bool → ℕ
 one true = 1
 one false = 0
 
-unfoldable pub count : (Run → Bool) → List Run → ℕ
-count p rs = total (λ r. one (p r)) rs
+-- what the runs that pass a test weigh together, and what all of them do
+unfoldable pub weightOf : (Run → Bool) → List Run → ℕ
+weightOf p rs = total (λ r. one (p r) * r .weight) rs
+
+unfoldable pub weightOfAll : List Run → ℕ
+weightOfAll rs = total (λ r. r .weight) rs
 
 -- A mask is a 64-bit number in which bit i speaks of run i, bit 0 being the lowest.
 abbrev pub maskBits : ℕ

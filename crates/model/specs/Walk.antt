@@ -5,7 +5,7 @@ use mathlib.Core.List.{List, [], _∷_, _++_, map}
 use lib.ListN.{length, getD, drop, replicate}
 use lib.Dec.{ltb, leb, eqb}
 use Rattle.model.specs.Certificate.{Part, answer, gap}
-use Rattle.model.specs.Runs.{Run, lastBin, pastBin, count, mask}
+use Rattle.model.specs.Runs.{Run, lastBin, pastBin, weightOf, mask}
 
 -- What a walk does, in order: it begins a search in a run, makes a probe in a run by doubling or by halving, writes a part.
 pub data Event : Type 0 where
@@ -22,13 +22,14 @@ headOf (x ∷ s) = x
 unfoldable pub head : Run → ℕ
 head r = headOf (r .bins)
 
--- The t-th smallest head, equal heads each counted: the least head that at least t heads do not exceed.
+-- The least head such that the runs whose heads do not exceed it weigh at least t. (Where every run weighs 1 this is the t-th smallest head, equal heads each
+-- counted.)
 unfoldable pub leastHead : (ℕ → Bool) → List Run → ℕ
 leastHead p [] = pastBin
 leastHead p (r ∷ rs) = elim (p (head r)) [ true ↦ min (head r) (leastHead p rs) | false ↦ leastHead p rs ]
 
-unfoldable pub tthHead : ℕ → List Run → ℕ
-tthHead t rs = leastHead (λ h. leb t (count (λ r. leb (head r) h) rs)) rs
+unfoldable pub enoughHead : ℕ → List Run → ℕ
+enoughHead t rs = leastHead (λ h. leb t (weightOf (λ r. leb (head r) h) rs)) rs
 
 -- A search for v, places counted from the run's position: the numbers s begin with the head, which is below v. It probes places 1, 2, 4 and so on
 -- by doubling, and stops at the first number that is at least v or at the first place not below n, which is not probed. lo is the last
@@ -99,36 +100,36 @@ unfoldable pub searched : ℕ → Run → Run
 searched v r =
     elim (ltb (head r) v) [
       | false ↦ r
-      | true ↦ record { label = r .label; bins = drop (seek v (r .bins) .place) (r .bins) }
+      | true ↦ record { label = r .label; weight = r .weight; bins = drop (seek v (r .bins) .place) (r .bins) }
     ]
 
--- Step 5, if at least t heads now equal v: write the answer v, naming all those runs. Move each of them on by one, without a probe, and set the
--- floor to v + 1. If v is 4294967295, end there with no further gap. Step 6, if fewer than t heads equal v: set the floor to v.
+-- Step 5, if the runs whose heads now equal v weigh at least t: write the answer v, naming all those runs. Move each of them on by one, without a probe, and set
+-- the floor to v + 1. If v is 4294967295, end there with no further gap. Step 6, if they weigh less: set the floor to v.
 unfoldable pub movedOn : ℕ → Run → Run
 movedOn v r =
     elim (eqb (head r) v) [
       | false ↦ r
-      | true ↦ record { label = r .label; bins = drop 1 (r .bins) }
+      | true ↦ record { label = r .label; weight = r .weight; bins = drop 1 (r .bins) }
     ]
 
 unfoldable pub settle : (ℕ → List Run → List Event) → ℕ → ℕ → List Run → List Event
 settle next t v rs =
-    elim (leb t (count (λ r. eqb (head r) v) rs)) [
+    elim (leb t (weightOf (λ r. eqb (head r) v) rs)) [
       | true ↦
           wrote (answer v (mask (λ r. eqb (head r) v) rs)) ∷
           elim (eqb v lastBin) [ true ↦ [] | false ↦ next (suc v) (map (movedOn v) rs) ]
       | false ↦ next v rs
     ]
 
--- One round, with the rounds after it. Step 1: if fewer than t runs have a head, write a gap from the floor to 4294967295, naming the runs without
--- a head, and end. Step 2: otherwise let v be the t-th smallest head. Step 3: if the floor is below v, write a gap from the floor to v − 1. It
--- names every run whose head is at least v and every run without a head.
+-- One round, with the rounds after it. Step 1: if the runs with a head weigh less than t, write a gap from the floor to 4294967295, naming the runs without
+-- a head, and end. Step 2: otherwise let v be the least head such that the runs whose heads are at most v weigh enough. Step 3: if the floor is below v, write a
+-- gap from the floor to v − 1. It names every run whose head is at least v and every run without a head.
 unfoldable pub round : (ℕ → List Run → List Event) → ℕ → ℕ → List Run → List Event
 round next t floor rs =
-    elim (ltb (count (λ r. ltb (head r) pastBin) rs) t) [
+    elim (ltb (weightOf (λ r. ltb (head r) pastBin) rs) t) [
       | true ↦ wrote (gap floor lastBin (mask (λ r. leb pastBin (head r)) rs)) ∷ []
       | false ↦
-          let v = tthHead t rs in
+          let v = enoughHead t rs in
           elim (ltb floor v) [ true ↦ wrote (gap floor (v - 1) (mask (λ r. leb v (head r)) rs)) ∷ [] | false ↦ [] ] ++
           (searches v rs ++ settle next t v (map (searched v) rs))
     ]

@@ -14,7 +14,7 @@ use Rattle.model.specs.Rows.{Rise, below, equal, halvingsWithin}
 use Rattle.model.proofs.Chosen.{chosen-mem}
 use Rattle.model.proofs.Events.{both-kinds}
 use Rattle.model.proofs.From.{rise-from, head-bin}
-use Rattle.model.proofs.Heads.{Heads, atMost, tth-enough, tth-ge}
+use Rattle.model.proofs.Heads.{Heads, atMost, enough-reached, enough-ge}
 use Rattle.model.proofs.Quiet.{quiet-searches, Spent, spent-quiet, within-alone}
 use Rattle.model.proofs.Tests.{lt-or-le}
 use Rattle.model.proofs.Walking.{all-equal, map-mem, searched-bins}
@@ -106,7 +106,7 @@ module _ (numbers ends positions keys A B : List ℕ) (m t v : ℕ) (w : State) 
   round-parts : (k : ℕ) → round (walk k t) t (w .floor) cs ≡ gapEvents (w .floor) v (m - named) ++ (searches v rs ++ rest k)
   round-parts k =
       let b = adv .bin in
-      round-is (walk k t) t (w .floor) v cs (adv .left) (adv .tth)
+      round-is (walk k t) t (w .floor) v cs (adv .left) (adv .least)
       ∙ (λ i. sym gap-events-are i ++ (idle-searches m rs (c .idle) v (omega arith) i ++ rest k))
 
   pub gap-stops : (B′ : List ℕ) → Writes (gapEvents (w .floor) v (m - named)) w B B′ wrote′.Full
@@ -227,8 +227,8 @@ module _ (numbers ends positions keys A B : List ℕ) (m t v : ℕ) (w : State) 
       floor-le : w .floor ≤ v
       floor-le =
           let b = s .bin in
-          let e = adv .tth in
-          let l = tth-ge t (w .floor) cs (omega arith) heads-chosen in
+          let e = adv .least in
+          let l = enough-ge t (w .floor) cs (omega arith) heads-chosen in
           omega arith
 
       -- a floor that is v already is held by t runs: no run is searched, and the t-th head is v
@@ -240,9 +240,9 @@ module _ (numbers ends positions keys A B : List ℕ) (m t v : ℕ) (w : State) 
           let same : map (searched v) cs ≡ cs = map-still (searched v) cs (λ r i. searched-still v r (le-ltb (head r) v (at-least o r i))) in
           let e = ap (equal v) (chosen-now ∙ same) in
           let f = idle-equal m (runsAt 0 numbers positions′ ends) (chooses-there .idle) v (adv .bin) in
-          let n′ = tth-enough t cs (heads-small (w .floor) cs rising-chosen)
+          let n′ = enough-reached t cs (heads-small (w .floor) cs rising-chosen)
           (let z = chosen-number numbers ends positions m t c keys (w .start) (s .few) (s .holds) in let y = c .enough in omega arith) in
-          let tth = ap (λ y. atMost y cs) (adv .tth) in
+          let tth = ap (λ y. atMost y cs) (adv .least) in
           let a = all-equal v cs (at-least o) in
           absurd (omega arith))
           (lt-or-le (w .floor) v)

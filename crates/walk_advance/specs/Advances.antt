@@ -4,7 +4,7 @@ use mathlib.Core.List.{List}
 use mathlib.Core.Path.{_≡_}
 use Rattle.model.specs.Rows.{below}
 use Rattle.model.specs.Runs.{pastBin}
-use Rattle.model.specs.Walk.{tthHead}
+use Rattle.model.specs.Walk.{enoughHead}
 use Rattle.walk_state.specs.State.{chosenAt}
 use Rattle.walk_write.specs.declared.Turn.{Turn}
 use Rattle.walk_write.specs.declared.Turn.the-variants.{On, Done, Stopped}
@@ -19,4 +19,4 @@ Raises floor (Stopped x w′) = Unit
 pub record Advances (chosen : ℕ) (numbers ends positions : List ℕ) (t v : ℕ) : Type 0 where
   pub bin : v < pastBin
   pub left : t ≤ below pastBin (chosenAt chosen numbers positions ends)
-  pub tth : tthHead t (chosenAt chosen numbers positions ends) ≡ v
+  pub least : enoughHead t (chosenAt chosen numbers positions ends) ≡ v

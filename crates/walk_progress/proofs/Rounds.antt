@@ -9,7 +9,7 @@ use mathlib.Core.Path.{_≡_, refl, sym, ap, _∙_}
 use native.Mathlib.Omega.{arith}
 use Rattle.model.specs.Certificate.{answer, gap}
 use Rattle.model.specs.Runs.{Run, lastBin, pastBin, one, count, mask, maskOfAll}
-use Rattle.model.specs.Walk.{Event, wrote, head, tthHead, searches, searched, movedOn, settle, round}
+use Rattle.model.specs.Walk.{Event, wrote, head, enoughHead, searches, searched, movedOn, settle, round}
 use Rattle.model.proofs.Count.{total-eq, total-add}
 use Rattle.model.specs.Rows.{below, equal}
 use Rattle.model.proofs.Truth.{not-below}
@@ -53,7 +53,7 @@ round-ends next t f rs h = rw (lt-ltb (count (λ r. ltb (head r) pastBin) rs) t 
 unfoldable pub gapBefore : ℕ → ℕ → List Run → List Event
 gapBefore f v rs = elim (ltb f v) [ true ↦ wrote (gap f (v - 1) (mask (λ r. leb v (head r)) rs)) ∷ [] | false ↦ [] ]
 
-pub round-is : (next : ℕ → List Run → List Event) (t f v : ℕ) (rs : List Run) → t ≤ below pastBin rs → tthHead t rs ≡ v
+pub round-is : (next : ℕ → List Run → List Event) (t f v : ℕ) (rs : List Run) → t ≤ below pastBin rs → enoughHead t rs ≡ v
     → round next t f rs ≡ gapBefore f v rs ++ (searches v rs ++ settle next t v (map (searched v) rs))
 unfolding round below gapBefore
 round-is next t f v rs h e =

@@ -131,6 +131,6 @@ module _ (numbers ends positions keys A B : List ℕ) (m t : ℕ) (w : State) (s
       record {
         bin = head-bin h;
         left = omega arith;
-        tth = tth-key cs labels small row order t (t - 1) (omega arith) (omega arith)
+        least = tth-key cs labels small row order t (t - 1) (omega arith) (omega arith)
             (heads-small (w .floor) cs (λ r i. s .rising r (chosen-mem m (runsAt 0 numbers positions ends) i .0))) (omega arith);
       }

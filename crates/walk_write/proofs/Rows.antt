@@ -12,10 +12,10 @@ use mathlib.Core.Path.{_≡_, refl, sym, ap, _∙_}
 use native.Mathlib.Nat.{le-antisymm}
 use native.Mathlib.Omega.{arith}
 use Rattle.model.specs.Runs.{Run, pastBin, total, one, count, mask, names, mostRuns, maskBits}
-use Rattle.model.specs.Walk.{head, tthHead}
+use Rattle.model.specs.Walk.{head, enoughHead}
 use Rattle.model.proofs.Count.{total-eq, total-le, total-zero}
 use Rattle.model.specs.Rows.{below}
-use Rattle.model.proofs.Heads.{Heads, atMost, below-mono, tth-enough, tth-few}
+use Rattle.model.proofs.Heads.{Heads, atMost, below-mono, enough-reached, enough-few}
 use Rattle.model.proofs.Masks.{Ascending, mask-under, names-mask}
 use Rattle.model.proofs.Tests.{lt-or-le, true-false}
 use Rattle.walk_keys.proofs.Row.{below-nil, below-pass, sum-one, member-sum, member-at, front-sum, rest-sum, below-sum, nth-enough, nth-few}
@@ -255,7 +255,7 @@ module _ (rs : List Run) (labels : Ascending 0 rs) (small : (r : Run) → List·
       (λ (q : x / 256 ≤ head r). let a = ap one (le-ltb (head r) (x / 256) q) in omega arith)
       (lt-or-le (head r) (x / 256)))
 
-  pub tth-key : (t i : ℕ) → t ≡ suc i → i < length row → Heads rs → t ≤ length rs → tthHead t rs ≡ getD row i 0 / 256
+  pub tth-key : (t i : ℕ) → t ≡ suc i → i < length row → Heads rs → t ≤ length rs → enoughHead t rs ≡ getD row i 0 / 256
   tth-key t i e l h k =
       let x = getD row i 0 in
       let b = row-bins x (member-at row i l) in
@@ -265,17 +265,17 @@ module _ (rs : List Run) (labels : Ascending 0 rs) (small : (r : Run) → List·
       let few′ = nth-few row (order .ordered) i l in
       let same₂ = order .same (λ j. one (ltb j x)) in
       let least = key-at-least x b in
-      let u₁ = tth-enough t rs h k in
-      let u₂ = tth-few t rs (omega arith) in
+      let u₁ = enough-reached t rs h k in
+      let u₂ = enough-few t rs (omega arith) in
       le-antisymm
       (⊎-elim
-      (λ (q : x / 256 < tthHead t rs). let m = below-mono q rs in absurd (omega arith))
-      (λ (q : tthHead t rs ≤ x / 256). q)
-      (lt-or-le (x / 256) (tthHead t rs)))
+      (λ (q : x / 256 < enoughHead t rs). let m = below-mono q rs in absurd (omega arith))
+      (λ (q : enoughHead t rs ≤ x / 256). q)
+      (lt-or-le (x / 256) (enoughHead t rs)))
       (⊎-elim
-      (λ (q : tthHead t rs < x / 256). let m = below-mono q rs in absurd (omega arith))
-      (λ (q : x / 256 ≤ tthHead t rs). q)
-      (lt-or-le (tthHead t rs) (x / 256)))
+      (λ (q : enoughHead t rs < x / 256). let m = below-mono q rs in absurd (omega arith))
+      (λ (q : x / 256 ≤ enoughHead t rs). q)
+      (lt-or-le (enoughHead t rs) (x / 256)))
 
 -- all keys are below the limit
 all-below : (l : ℕ) (s : List ℕ) → ((k : ℕ) → List·Memᴰ k s → k < l) → belowCount l s ≡ length s
