@@ -1,0 +1,48 @@
+// What runs weigh, by a row with a weight for each run. A row with none stands for runs that weigh 1 each.
+ghost use mathlib.Core.Path.{_≡_};
+ghost use Prim.Native.Nat.{_^_, _≤_, _<_};
+ghost use lib.ListN.{length};
+ghost use Rattle.model.specs.Refusals.{sumOfWeights};
+ghost use Rattle.model.specs.Runs.{mostRuns};
+ghost use Rattle.weights.specs.Named.{namedWeight, Weighs};
+
+// What all runs weigh.
+pub fn sum(weights: &[u32]) -> usize
+    requires { ⌜ length (now weights) ≤ mostRuns ⌝ }
+    ensures { λ r. ⌜ r ≡ sumOfWeights (now (weights .entry)) ⌝ }
+{
+    let mut total: usize = 0;
+    let mut i: usize = 0;
+    while i < weights.len() {
+        total += arith::usize_of_u32(weights[i]);
+        i += 1;
+    }
+    total
+}
+
+// What the runs that the mask names weigh, each of which has a weight in the row.
+pub fn named_weight(mask: u64, weights: &[u32]) -> usize
+    requires { ⌜ (length (now weights) ≤ mostRuns) × (mask < 2 ^ length (now weights)) ⌝ }
+    ensures { λ r. ⌜ r ≡ namedWeight (now (weights .entry)) mask ⌝ }
+{
+    let mut total: usize = 0;
+    let mut rest = mask;
+    while 0 < rest {
+        let run = mask::lowest_run(rest);
+        let i = arith::usize_of_u32(run);
+        total += arith::usize_of_u32(weights[i]);
+        rest = mask::without_lowest(rest);
+    }
+    total
+}
+
+// What the runs that the mask names weigh: how many they are where the row has no weights.
+pub fn weight_of(mask: u64, weights: &[u32]) -> usize
+    requires { ⌜ Weighs mask (now weights) ⌝ }
+    ensures { λ r. ⌜ r ≡ namedWeight (now (weights .entry)) mask ⌝ }
+{
+    if weights.len() == 0 {
+        return arith::usize_of_u32(mask::ones_of(mask));
+    }
+    named_weight(mask, weights)
+}
