@@ -12,7 +12,7 @@ use native.Mathlib.Nat.{zero-mul}
 use native.Mathlib.Omega.{arith}
 use Rattle.model.specs.Certificate.{NamesOnly}
 use Rattle.model.specs.Plain.{count}
-use Rattle.model.specs.Runs.{Run, total, one, weightOf, mask, maskOfAll, bit, names, chosen}
+use Rattle.model.specs.Runs.{Run, total, one, weightOf, weightOfAll, mask, maskOfAll, bit, names, chosen}
 use Rattle.model.specs.Walk.{head, searchIn, searches}
 use Rattle.model.proofs.Bounds.{search-none}
 use Rattle.model.proofs.Masks.{Labelled, label-first, label-rest, Ascending, ascending-nil, ascending-cons, ascending-first, ascending-rest, ascending-from, ascending, below-only, mask-names, ones-names, mask-of-all, all-named}
@@ -110,6 +110,17 @@ pub chosen-weight : (m : ℕ) (p : Run → Bool) (rs : List Run) → ((r : Run) 
     → weightOf p (chosen m rs) ≡ weightOf p rs
 unfolding weightOf
 chosen-weight m p rs h = chosen-total m (λ r. one (p r) * r .weight) rs (λ r n e. one-none (p r) (r .weight) (h r n e))
+
+-- what all of them weigh: what those that the mask names do
+pub chosen-all-weight : (m : ℕ) (rs : List Run) → weightOfAll (chosen m rs) ≡ weightOf (names m) rs
+unfolding weightOfAll weightOf total one
+chosen-all-weight m [] = ap (total (λ r. r .weight)) (chosen-nil m)
+chosen-all-weight m (r ∷ rs) =
+    let i = chosen-all-weight m rs in
+    ⊎-elim
+    (λ (e : names m r ≡ true). rw (chosen-in m r rs e, e) (omega arith))
+    (λ (e : names m r ≡ false). rw (chosen-out m r rs e, e) (omega arith))
+    (both (names m r))
 
 pub chosen-mask : (m : ℕ) (p : Run → Bool) (rs : List Run) → ((r : Run) → List·Memᴰ r rs → names m r ≡ false → p r ≡ false)
     → mask p (chosen m rs) ≡ mask p rs

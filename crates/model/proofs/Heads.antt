@@ -78,7 +78,7 @@ module _ (p : ℕ → Bool) where
       (λ (q : p (head r) ≡ false). rw (q, leastHead) i)
       (both (p (head r)))
 
-at-most-past : (rs : List Run) → Heads rs → atMost pastBin rs ≡ weightOfAll rs
+pub at-most-past : (rs : List Run) → Heads rs → atMost pastBin rs ≡ weightOfAll rs
 unfolding atMost weightOf weightOfAll one
 at-most-past rs h =
     total-eq _ _ rs (λ r m. ap (λ b. one b * r .weight) (le-leb (head r) pastBin (h .small r m)) ∙ one-mul (r .weight))

@@ -11,7 +11,7 @@ use native.Mathlib.Omega.{arith}
 use Rattle.model.specs.Refusals.{sumOfWeights}
 use Rattle.model.specs.Runs.{Run, weightedRun, weighted, total, one, weightOf, weightOfAll, mask, names, chosen}
 use Rattle.model.specs.Walk.{head, searchIn, searches, searched, movedOn}
-use Rattle.model.proofs.Chosen.{chosen-map}
+use Rattle.model.proofs.Chosen.{chosen-map, chosen-all-weight}
 use Rattle.model.proofs.Count.{total-map}
 use Rattle.model.proofs.Masks.{Labelled, labelled-nil, labelled-cons, label-first, label-rest, Ascending, ascending-nil, ascending-cons}
 use Rattle.model.proofs.Plain.{Plain}
@@ -66,6 +66,10 @@ module _ (ws : List ℕ) where
   unfolding weighted weightedRun
   weighted-chosen m rs = sym (chosen-map m (weightedRun ws) rs (λ r. refl))
 
+  -- what the chosen weigh is what those that the mask names do
+  pub weights-chosen : (m : ℕ) (rs : List Run) → weightOfAll (weighted ws (chosen m rs)) ≡ weightOf (names m) (weighted ws rs)
+  weights-chosen m rs = ap weightOfAll (sym (weighted-chosen m rs)) ∙ chosen-all-weight m (weighted ws rs)
+
   search-weighted : (v : ℕ) (r : Run) → searchIn v (weightedRun ws r) ≡ searchIn v r
   unfolding searchIn weightedRun head
   search-weighted v r = refl
@@ -81,7 +85,7 @@ module _ (ws : List ℕ) where
   unfolding weighted
   weighted-moved f h rs = map-map f (weightedRun ws) rs ∙ (map-same _ _ rs (λ r m. h r) ∙ sym (map-map (weightedRun ws) f rs))
 
-  searched-run : (v : ℕ) (r : Run) → searched v (weightedRun ws r) ≡ weightedRun ws (searched v r)
+  pub searched-run : (v : ℕ) (r : Run) → searched v (weightedRun ws r) ≡ weightedRun ws (searched v r)
   unfolding searched weightedRun head
   searched-run v r =
       ⊎-elim
@@ -89,7 +93,7 @@ module _ (ws : List ℕ) where
       (λ (e : ltb (head r) v ≡ false). rw (e, searched))
       (both (ltb (head r) v))
 
-  moved-run : (v : ℕ) (r : Run) → movedOn v (weightedRun ws r) ≡ weightedRun ws (movedOn v r)
+  pub moved-run : (v : ℕ) (r : Run) → movedOn v (weightedRun ws r) ≡ weightedRun ws (movedOn v r)
   unfolding movedOn weightedRun head
   moved-run v r =
       ⊎-elim

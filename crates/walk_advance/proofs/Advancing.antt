@@ -1,4 +1,4 @@
--- A round from the t-th smallest head on: the gap, the searches, and what follows. Assumes nothing.
+-- A round from the head on up to which runs weigh enough: the gap, the searches, and what follows. Assumes nothing.
 use Prim.Native.Nat.{ℕ, _+_, _-_, _*_, _≤_, _<_}
 use borrow.Author.Tests.{le-ltb}
 use lib.Dec.{ltb}
@@ -8,10 +8,9 @@ use mathlib.Core.Logic.{⊎-elim}
 use mathlib.Core.Path.{_≡_, refl, sym, ap, _∙_, subst}
 use native.Mathlib.Omega.{arith}
 use Rattle.model.specs.Compared.{doublingsOf, halvingsOf}
-use Rattle.model.specs.Runs.{Run, pastBin, mask, maskOfAll, names, chosen}
+use Rattle.model.specs.Runs.{Run, pastBin, weighted, mask, maskOfAll, names}
 use Rattle.model.specs.Walk.{Event, head, searches, searched, settle, round, walk}
 use Rattle.model.specs.Rows.{Rise, below, equal, halvingsWithin}
-use Rattle.model.proofs.Chosen.{chosen-mem}
 use Rattle.model.proofs.Events.{both-kinds}
 use Rattle.model.proofs.From.{rise-from, head-bin}
 use Rattle.model.proofs.Heads.{Heads, atMost, enough-reached, enough-ge}
@@ -28,7 +27,7 @@ use Rattle.walk_write.specs.declared.State.{State}
 use Rattle.walk_write.specs.declared.Turn.{Turn}
 use Rattle.walk_write.specs.declared.Turn.the-variants.{On, Done, Stopped}
 use Rattle.walk_write.specs.declared.Wrote.the-variants as wrote′
-use Rattle.walk_settle.proofs.Choosing.{chosen-labels, chosen-small, chosen-order, chosen-number, mask-of-chosen, chooses-moved, chosen-moved}
+use Rattle.walk_settle.proofs.Choosing.{chosen-labels, chosen-small, chosen-rises, chosen-order, chosen-met, mask-of-chosen, chooses-moved, chosen-moved}
 use Rattle.walk_settle.proofs.Passing.{labels, small, taken-out, heads-from}
 use Rattle.walk_progress.proofs.Rounds.{gapBefore, gap-mask, front-in-all, round-is}
 use Rattle.walk_write.proofs.Rows.{front-mask, front-names}
@@ -45,16 +44,16 @@ unfolding head
 heads-small f rs h = record { small = λ r m. head-bin (h r m) }
 
 searched-rises : (v : ℕ) {a : ℕ} (r : Run) → Rise a (r .bins) → v ≤ pastBin → Rise v (searched v r .bins)
-searched-rises v r h b = subst (λ (x : Run). Rise v (x .bins)) (sym (searched-bins v (r .label) (r .bins) h b)) (rise-from v (r .bins) h)
+searched-rises v r h b = subst (λ (x : Run). Rise v (x .bins)) (sym (searched-bins v (r .label) (r .weight) (r .bins) h b)) (rise-from v (r .bins) h)
 
-module _ (numbers ends positions keys A B : List ℕ) (m t v : ℕ) (w : State) (n named : ℕ) (s : Stands numbers ends positions keys t w)
-    (c : Chooses m numbers ends positions t) (fits : Fitted A B w) (adv : Advances m numbers ends positions t v)
+module _ (numbers ends ws positions keys A B : List ℕ) (m t v : ℕ) (w : State) (n named : ℕ) (s : Stands numbers ends ws positions keys t w)
+    (c : Chooses m numbers ends ws positions t) (fits : Fitted A B w) (adv : Advances m numbers ends ws positions t v)
     (counts : n ≡ belowCount (v * 256) (drop (w .start) keys)) (names : named ≡ labelSum (take n (drop (w .start) keys))) where
   abbrev rs : List Run
   rs = runsAt 0 numbers positions ends
 
   abbrev cs : List Run
-  cs = chosen m rs
+  cs = chosenAt ws m numbers positions ends
 
   front-is : named ≡ labelSum (take (belowCount (v * 256) (drop (w .start) keys)) (drop (w .start) keys))
   front-is = names ∙ ap (λ x. labelSum (take x (drop (w .start) keys))) counts
@@ -70,9 +69,9 @@ module _ (numbers ends positions keys A B : List ℕ) (m t v : ℕ) (w : State) 
   named-chosen =
       let b = adv .bin in
       front-is
-      ∙ front-mask cs (chosen-labels numbers ends positions m t c keys (w .start) (s .few) (s .holds))
-      (chosen-small numbers ends positions m t c keys (w .start) (s .few) (s .holds)) (drop (w .start) keys)
-      (chosen-order numbers ends positions m t c keys (w .start) (s .few) (s .holds)) v (omega arith)
+      ∙ front-mask cs (chosen-labels numbers ends ws positions m t c keys (w .start) (s .few) (s .holds))
+      (chosen-small numbers ends ws positions m t c keys (w .start) (s .few) (s .holds)) (drop (w .start) keys)
+      (chosen-order numbers ends ws positions m t c keys (w .start) (s .few) (s .holds)) v (omega arith)
 
   pub search-ready : SearchReady numbers ends positions keys (w .start + n) named v
   search-ready =
@@ -89,7 +88,7 @@ module _ (numbers ends positions keys A B : List ℕ) (m t v : ℕ) (w : State) 
       }
 
   all-chosen : maskOfAll cs ≡ m
-  all-chosen = mask-of-chosen numbers ends positions m t c keys (w .start) (s .few) (s .holds)
+  all-chosen = mask-of-chosen numbers ends ws positions m t c keys (w .start) (s .few) (s .holds)
 
   pub named-small : named ≤ m
   named-small = let e = named-chosen in let a = all-chosen in let l = front-in-all cs v in omega arith
@@ -107,10 +106,10 @@ module _ (numbers ends positions keys A B : List ℕ) (m t v : ℕ) (w : State) 
   round-parts k =
       let b = adv .bin in
       round-is (walk k t) t (w .floor) v cs (adv .left) (adv .least)
-      ∙ (λ i. sym gap-events-are i ++ (idle-searches m rs (c .idle) v (omega arith) i ++ rest k))
+      ∙ (λ i. sym gap-events-are i ++ (idle-searches m rs (c .idle) ws v (omega arith) i ++ rest k))
 
   pub gap-stops : (B′ : List ℕ) → Writes (gapEvents (w .floor) v (m - named)) w B B′ wrote′.Full
-      → Goes (λ k. round (walk k t) t (w .floor) cs) m numbers ends t w A B positions keys A B′ (Stopped 6 w) × Raises (w .floor) (Stopped 6 w)
+      → Goes (λ k. round (walk k t) t (w .floor) cs) m numbers ends ws t w A B positions keys A B′ (Stopped 6 w) × Raises (w .floor) (Stopped 6 w)
   gap-stops B′ h = (
     (
       omega arith,
@@ -147,7 +146,7 @@ module _ (numbers ends positions keys A B : List ℕ) (m t v : ℕ) (w : State) 
         (q, omega (arith, h .2), omega (arith, h .1, h .2))
 
     pub searches-stop : (positions′ keys′ : List ℕ) (tally : ℕ) → SearchedRuns numbers ends rs v (x .tally) positions′ keys′ (moved.Spent tally)
-        → Goes (λ k. round (walk k t) t (w .floor) cs) m numbers ends t w A B positions′ keys′ A B′ (Stopped 7 (spentState tally))
+        → Goes (λ k. round (walk k t) t (w .floor) cs) m numbers ends ws t w A B positions′ keys′ A B′ (Stopped 7 (spentState tally))
         × Raises (w .floor) (Stopped 7 (spentState tally))
     unfolding goesOn endsWith countsOf withProbes probesSo
     searches-stop positions′ keys′ tally h =
@@ -178,19 +177,20 @@ module _ (numbers ends positions keys A B : List ℕ) (m t v : ℕ) (w : State) 
       runs-now : runsAt 0 numbers positions′ ends ≡ map (searched v) rs
       runs-now = h .1 .runs-are
 
-      chosen-now : chosenAt m numbers positions′ ends ≡ map (searched v) cs
-      chosen-now = chosen-moved numbers ends positions m t c (searched v) (searched-keeps v) positions′ runs-now
+      chosen-now : chosenAt ws m numbers positions′ ends ≡ map (searched v) cs
+      chosen-now = chosen-moved numbers ends ws positions m t c (searched v) (searched-keeps v) positions′ runs-now
 
-      chooses-there : Chooses m numbers ends positions′ t
-      chooses-there = chooses-moved numbers ends positions m t c (searched v) (searched-keeps v) positions′ runs-now
+      chooses-there : Chooses m numbers ends ws positions′ t
+      chooses-there = chooses-moved numbers ends ws positions m t c (searched v) (searched-keeps v) positions′ runs-now
 
-      pub stands-there : Stands numbers ends positions′ keys′ t (searchedState start tally) × Fitted A B′ (searchedState start tally)
+      pub stands-there : Stands numbers ends ws positions′ keys′ t (searchedState start tally) × Fitted A B′ (searchedState start tally)
       stands-there =
           let b = adv .bin in
           let k = g .0 in
           let a = k .answers in
           let f = fits .answered in (
             record {
+              row = s .row;
               few = s .few;
               some = s .some;
               holds = subst (λ y. Holds numbers ends positions′ keys′ start y) (sym runs-now) (h .1);
@@ -204,7 +204,7 @@ module _ (numbers ends positions keys A B : List ℕ) (m t v : ℕ) (w : State) 
           )
 
       to-settle : (allowance k : ℕ) → undoubled (w .tally) ≤ allowance → goesOn allowance w A B (round (walk k t) t (w .floor) cs)
-          ≡ goesOn allowance (searchedState start tally) A B′ (settle (walk k t) t v (chosenAt m numbers positions′ ends))
+          ≡ goesOn allowance (searchedState start tally) A B′ (settle (walk k t) t v (chosenAt ws m numbers positions′ ends))
       unfolding goesOn countsOf withProbes probesSo
       to-settle allowance k o =
           let e = ap undoubled x-tally in
@@ -219,7 +219,7 @@ module _ (numbers ends positions keys A B : List ℕ) (m t v : ℕ) (w : State) 
 
       -- the floor is raised
       rising-chosen : (r : Run) → List·Memᴰ r cs → Rise (w .floor) (r .bins)
-      rising-chosen r i = s .rising r (chosen-mem m rs i .0)
+      rising-chosen = chosen-rises numbers ends ws positions m t c keys (w .start) (s .few) (s .holds) (w .floor) (s .rising)
 
       heads-chosen : (r : Run) → List·Memᴰ r cs → w .floor ≤ head r
       heads-chosen = heads-from (w .floor) cs (let b = s .bin in omega arith) rising-chosen
@@ -231,18 +231,17 @@ module _ (numbers ends positions keys A B : List ℕ) (m t v : ℕ) (w : State) 
           let l = enough-ge t (w .floor) cs (omega arith) heads-chosen in
           omega arith
 
-      -- a floor that is v already is held by t runs: no run is searched, and the t-th head is v
-      raised : equal v (runsAt 0 numbers positions′ ends) < t → w .floor < v
+      -- a floor that is v already is held by runs that weigh enough: no run is searched, and that head is v
+      raised : equal v (weighted ws (runsAt 0 numbers positions′ ends)) < t → w .floor < v
       raised q =
           ⊎-elim
           (λ (o : w .floor < v). o)
           (λ (o : v ≤ w .floor).
           let same : map (searched v) cs ≡ cs = map-still (searched v) cs (λ r i. searched-still v r (le-ltb (head r) v (at-least o r i))) in
           let e = ap (equal v) (chosen-now ∙ same) in
-          let f = idle-equal m (runsAt 0 numbers positions′ ends) (chooses-there .idle) v (adv .bin) in
-          let n′ = enough-reached t cs (heads-small (w .floor) cs rising-chosen)
-          (let z = chosen-number numbers ends positions m t c keys (w .start) (s .few) (s .holds) in let y = c .enough in omega arith) in
-          let tth = ap (λ y. atMost y cs) (adv .least) in
+          let f = idle-equal m (runsAt 0 numbers positions′ ends) (chooses-there .idle) ws v (adv .bin) in
+          let n′ = enough-reached t cs (heads-small (w .floor) cs rising-chosen) (chosen-met numbers ends ws positions m t c keys (w .start) (s .few) (s .holds)) in
+          let least = ap (λ y. atMost y cs) (adv .least) in
           let a = all-equal v cs (at-least o) in
           absurd (omega arith))
           (lt-or-le (w .floor) v)
@@ -251,9 +250,9 @@ module _ (numbers ends positions keys A B : List ℕ) (m t v : ℕ) (w : State) 
           at-least o r i = let p = heads-chosen r i in omega arith
 
       settled : (positions″ keys″ A″ B″ : List ℕ) (r : Turn)
-          → Goes (λ k. settle (walk k t) t v (chosenAt m numbers positions′ ends)) m numbers ends t (searchedState start tally) A B′ positions″ keys″ A″ B″ r
-          → Settles (runsAt 0 numbers positions′ ends) t v r
-          → Goes (λ k. round (walk k t) t (w .floor) cs) m numbers ends t w A B positions″ keys″ A″ B″ r × Raises (w .floor) r
+          → Goes (λ k. settle (walk k t) t v (chosenAt ws m numbers positions′ ends)) m numbers ends ws t (searchedState start tally) A B′ positions″ keys″ A″ B″ r
+          → Settles (weighted ws (runsAt 0 numbers positions′ ends)) t v r
+          → Goes (λ k. round (walk k t) t (w .floor) cs) m numbers ends ws t w A B positions″ keys″ A″ B″ r × Raises (w .floor) r
       settled positions″ keys″ A″ B″ (On y) p u =
           let l = still-allowed in
           let j = p .3 in (
@@ -276,8 +275,8 @@ module _ (numbers ends positions keys A B : List ℕ) (m t v : ℕ) (w : State) 
           ((p .0, omega arith, λ allowance k o. to-settle allowance k o ∙ p .2 allowance k (omega arith)), tt)
 
       pub then-settles : (positions″ keys″ A″ B″ : List ℕ) (r : Turn)
-          → ((i : ℕ) → Chooses i numbers ends positions′ t
-          → Goes (λ k. settle (walk k t) t v (chosenAt i numbers positions′ ends)) i numbers ends t (searchedState start tally) A B′ positions″ keys″ A″ B″ r)
-          × Settles (runsAt 0 numbers positions′ ends) t v r
-          → Goes (λ k. round (walk k t) t (w .floor) cs) m numbers ends t w A B positions″ keys″ A″ B″ r × Raises (w .floor) r
+          → ((i : ℕ) → Chooses i numbers ends ws positions′ t
+          → Goes (λ k. settle (walk k t) t v (chosenAt ws i numbers positions′ ends)) i numbers ends ws t (searchedState start tally) A B′ positions″ keys″ A″ B″ r)
+          × Settles (weighted ws (runsAt 0 numbers positions′ ends)) t v r
+          → Goes (λ k. round (walk k t) t (w .floor) cs) m numbers ends ws t w A B positions″ keys″ A″ B″ r × Raises (w .floor) r
       then-settles positions″ keys″ A″ B″ r p = settled positions″ keys″ A″ B″ r (p .0 m chooses-there) (p .1)

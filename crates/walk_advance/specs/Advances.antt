@@ -1,4 +1,4 @@
--- What a round raises, and what it asks from the t-th smallest head on. Definitions only.
+-- What a round raises, and what it asks from the head v on up to which runs weigh enough. Definitions only.
 use Prim.Native.Nat.{ℕ, _≤_, _<_}
 use mathlib.Core.List.{List}
 use mathlib.Core.Path.{_≡_}
@@ -15,8 +15,8 @@ Raises floor (On w′) = floor < w′ .floor
 Raises floor (Done w′) = Unit
 Raises floor (Stopped x w′) = Unit
 
--- v is the t-th smallest head of the chosen runs, and enough of them have one
-pub record Advances (chosen : ℕ) (numbers ends positions : List ℕ) (t v : ℕ) : Type 0 where
+-- v is the least head such that the chosen runs whose heads are not above it weigh enough
+pub record Advances (chosen : ℕ) (numbers ends weights positions : List ℕ) (t v : ℕ) : Type 0 where
   pub bin : v < pastBin
-  pub left : t ≤ below pastBin (chosenAt chosen numbers positions ends)
-  pub least : enoughHead t (chosenAt chosen numbers positions ends) ≡ v
+  pub left : t ≤ below pastBin (chosenAt weights chosen numbers positions ends)
+  pub least : enoughHead t (chosenAt weights chosen numbers positions ends) ≡ v

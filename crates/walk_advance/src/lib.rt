@@ -1,4 +1,5 @@
-// A round from the t-th smallest head v of the chosen runs on (docs/SPECIFICATION.md, 'The walk'): the gap before v, the searches for v, and then the answer.
+// A round from the head v on up to which the chosen runs weigh enough (docs/SPECIFICATION.md, 'The walk'): the gap before v, the searches for v, and then the
+// answer.
 ghost use Rattle.model.specs.Walk.{round, walk};
 ghost use Rattle.walk_state.specs.State.{chosenAt};
 ghost use Rattle.walk_write.specs.Writes.{Fitted};
@@ -9,10 +10,11 @@ use walk_write::State;
 use walk_write::Turn;
 use walk_write::Wrote;
 
-// A round from the t-th smallest head v of the chosen runs on: the gap before v, the searches for v, and the answer.
+// A round from the head v on: the gap before v, the searches for v, and the answer.
 pub fn advance(
     numbers: &[u32],
     ends: &[u32],
+    weights: &[u32],
     chosen: u64,
     threshold: usize,
     positions: &mut [u32],
@@ -22,8 +24,8 @@ pub fn advance(
     v: u32,
     w: State,
 ) -> Turn
-    requires { ⌜ Stands (now numbers) (now ends) (now positions) (now keys) threshold w × Chooses chosen (now numbers) (now ends) (now positions) threshold × Fitted (now answers) (now certificate) w × Advances chosen (now numbers) (now ends) (now positions) threshold v ⌝ }
-    ensures goes { λ r. ⌜ Goes (λ n. round (walk n threshold) threshold (w .floor) (chosenAt chosen (now (numbers .entry)) (now (positions .entry)) (now (ends .entry)))) chosen (now (numbers .entry)) (now (ends .entry)) threshold w (now (answers .entry)) (now (certificate .entry)) (now (positions .exit)) (now (keys .exit)) (now (answers .exit)) (now (certificate .exit)) r ⌝ }
+    requires { ⌜ Stands (now numbers) (now ends) (now weights) (now positions) (now keys) threshold w × Chooses chosen (now numbers) (now ends) (now weights) (now positions) threshold × Fitted (now answers) (now certificate) w × Advances chosen (now numbers) (now ends) (now weights) (now positions) threshold v ⌝ }
+    ensures goes { λ r. ⌜ Goes (λ n. round (walk n threshold) threshold (w .floor) (chosenAt (now (weights .entry)) chosen (now (numbers .entry)) (now (positions .entry)) (now (ends .entry)))) chosen (now (numbers .entry)) (now (ends .entry)) (now (weights .entry)) threshold w (now (answers .entry)) (now (certificate .entry)) (now (positions .exit)) (now (keys .exit)) (now (answers .exit)) (now (certificate .exit)) r ⌝ }
     ensures raises { λ r. ⌜ Raises (w .floor) r ⌝ }
 {
     let front = walk_keys::front(keys, w.start, arith::u64_of_u32(v) * 256);
@@ -56,6 +58,7 @@ pub fn advance(
         Moved::On { start, tally } => walk_settle::settle(
             numbers,
             ends,
+            weights,
             threshold,
             positions,
             keys,

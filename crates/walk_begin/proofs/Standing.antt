@@ -22,7 +22,7 @@ standing-in : (m : ℕ) (r : Run) → names m r ≡ true → standing m r ≡ r
 unfolding standing
 standing-in m r e = rw (e, standing)
 
-standing-out : (m : ℕ) (r : Run) → names m r ≡ false → standing m r ≡ record { label = r .label; bins = [] }
+standing-out : (m : ℕ) (r : Run) → names m r ≡ false → standing m r ≡ record { label = r .label; weight = r .weight; bins = [] }
 unfolding standing
 standing-out m r e = rw (e, standing)
 
@@ -67,13 +67,13 @@ module _ (m : ℕ) where
         (both (eqb (bit m i) 1))
 
     -- there it is as it stands
-    begins-standing : (numbers : List ℕ) → record { label = i; bins = slice numbers (beginsAt m i first e) e } ≡ standing m (record { label = i; bins = slice numbers first e })
+    begins-standing : (numbers : List ℕ) → record { label = i; weight = 1; bins = slice numbers (beginsAt m i first e) e } ≡ standing m (record { label = i; weight = 1; bins = slice numbers first e })
     unfolding names
     begins-standing numbers =
-        let r : Run = record { label = i; bins = slice numbers first e } in
+        let r : Run = record { label = i; weight = 1; bins = slice numbers first e } in
         let z : e - e ≡ 0 = omega arith in
         ⊎-elim
-        (λ q. (λ d. record { label = i; bins = slice numbers (begins-first q d) e }) ∙ sym (standing-in m r q))
+        (λ q. (λ d. record { label = i; weight = 1; bins = slice numbers (begins-first q d) e }) ∙ sym (standing-in m r q))
         (λ q. rw (begins-end q, z) (sym (standing-out m r q)))
         (both (eqb (bit m i) 1))
 
@@ -91,7 +91,7 @@ module _ (m : ℕ) where
       let z : i + 0 ≡ i = omega arith in
       let g : y ≡ beginsAt m i x e = h 0 (omega arith) ∙ ap (λ k. beginsAt m k x e) z in
       ap₂ _∷_
-      ((λ d. record { label = i; bins = slice numbers (g d) e }) ∙ begins-standing i x e numbers)
+      ((λ d. record { label = i; weight = 1; bins = slice numbers (g d) e }) ∙ begins-standing i x e numbers)
       (all-standing (suc i) numbers ends firsts positions (omega arith) (omega arith)
       (λ j l. let k : i + suc j ≡ suc i + j = omega arith in h (suc j) (omega arith) ∙ ap (λ n. beginsAt m n (getD firsts j 0) (getD ends j 0)) k))
 

@@ -19,7 +19,7 @@ pub record Lent (numbers ends firsts : List ℕ) : Type 0 where
 
 -- a run as it stands where a walk over the runs that a mask chooses begins: at its end where it is not chosen, so that it is never moved
 unfoldable pub standing : ℕ → Run → Run
-standing chosen r = elim (names chosen r) [ true ↦ r | false ↦ record { label = r .label; bins = [] } ]
+standing chosen r = elim (names chosen r) [ true ↦ r | false ↦ record { label = r .label; weight = r .weight; bins = [] } ]
 
 -- the place where a run with its first bin at `first` and its end at `e` begins
 unfoldable pub beginsAt : ℕ → ℕ → ℕ → ℕ → ℕ

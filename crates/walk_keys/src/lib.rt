@@ -2,7 +2,7 @@
 ghost use mathlib.Core.Path.{_≡_};
 ghost use Prim.Native.Nat.{_+_, _*_, _^_, _≤_, _<_};
 ghost use lib.ListN.{length, take, drop};
-ghost use Rattle.walk_keys.specs.Row.{belowCount, labelSum, Labels, nthHead};
+ghost use Rattle.walk_keys.specs.Row.{belowCount, labelSum, Labels, nthHead, reachedHead, HaveWeights};
 ghost use Rattle.model.specs.Runs.{maskBits};
 
 // A number above every key.
@@ -22,11 +22,44 @@ pub fn key(h: u32, run: u32) -> u64
 }
 
 // The head of the t-th key of the row, counted from one.
-pub fn nth_head(keys: &[u64], start: usize, t: usize) -> u64
+fn nth_head(keys: &[u64], start: usize, t: usize) -> u64
     requires { ⌜ (0 < t) × (start + t ≤ length (now keys)) ⌝ }
     ensures { λ r. ⌜ r ≡ nthHead t (drop start (now (keys .entry))) ⌝ }
 {
     keys[start + (t - 1)] >> 8
+}
+
+// The head of the first key up to which the runs weigh at least `t`, by a row with a weight for each; or the number after the last bin where all weigh less.
+fn weighted_head(keys: &[u64], start: usize, weights: &[u32], t: usize) -> u64
+    requires { ⌜ (start ≤ length (now keys)) × (0 < length (now weights)) × HaveWeights (now weights) (drop start (now keys)) ⌝ }
+    ensures { λ r. ⌜ r ≡ reachedHead (now (weights .entry)) t (drop start (now (keys .entry))) ⌝ }
+{
+    let mut missing = t;
+    let mut i = start;
+    while i < keys.len() {
+        let key = keys[i];
+        let weight = arith::usize_of_u32(weights[(key & 255) as usize]);
+        if missing <= weight {
+            return key >> 8;
+        }
+        missing -= weight;
+        i += 1;
+    }
+    limits::PAST_BIN
+}
+
+// The same where a row without weights stands for runs that weigh 1 each: then it is the t-th key, and the row need not be gone through.
+pub fn reached_head(keys: &[u64], start: usize, weights: &[u32], t: usize) -> u64
+    requires { ⌜ (0 < t) × (start ≤ length (now keys)) × HaveWeights (now weights) (drop start (now keys)) ⌝ }
+    ensures { λ r. ⌜ r ≡ reachedHead (now (weights .entry)) t (drop start (now (keys .entry))) ⌝ }
+{
+    if 0 < weights.len() {
+        return weighted_head(keys, start, weights, t);
+    }
+    if keys.len() - start < t {
+        return limits::PAST_BIN;
+    }
+    nth_head(keys, start, t)
 }
 
 // The keys of the row that are below `limit`: how many, and the mask of their runs.

@@ -8,7 +8,7 @@ use mathlib.Core.Logic.{_≢_}
 use mathlib.Core.Path.{_≡_, refl, sym, ap, _∙_}
 use native.Mathlib.Omega.{arith}
 use Rattle.model.specs.Certificate.{answer, gap}
-use Rattle.model.specs.Runs.{Run, lastBin, pastBin, one, count, mask, maskOfAll}
+use Rattle.model.specs.Runs.{Run, lastBin, pastBin, one, weightOf, mask, maskOfAll}
 use Rattle.model.specs.Walk.{Event, wrote, head, enoughHead, searches, searched, movedOn, settle, round}
 use Rattle.model.proofs.Count.{total-eq, total-add}
 use Rattle.model.specs.Rows.{below, equal}
@@ -47,7 +47,7 @@ front-in-all rs v = let b = heads-split rs v in omega arith
 pub round-ends : (next : ℕ → List Run → List Event) (t f : ℕ) (rs : List Run) → below pastBin rs < t
     → round next t f rs ≡ wrote (gap f lastBin (mask (λ r. leb pastBin (head r)) rs)) ∷ []
 unfolding round below
-round-ends next t f rs h = rw (lt-ltb (count (λ r. ltb (head r) pastBin) rs) t h, round)
+round-ends next t f rs h = rw (lt-ltb (weightOf (λ r. ltb (head r) pastBin) rs) t h, round)
 
 -- the gap before v, where there is one
 unfoldable pub gapBefore : ℕ → ℕ → List Run → List Event
@@ -57,19 +57,19 @@ pub round-is : (next : ℕ → List Run → List Event) (t f v : ℕ) (rs : List
     → round next t f rs ≡ gapBefore f v rs ++ (searches v rs ++ settle next t v (map (searched v) rs))
 unfolding round below gapBefore
 round-is next t f v rs h e =
-    rw (le-ltb (count (λ r. ltb (head r) pastBin) rs) t h, round)
+    rw (le-ltb (weightOf (λ r. ltb (head r) pastBin) rs) t h, round)
     (ap (λ x. gapBefore f x rs ++ (searches x rs ++ settle next t x (map (searched x) rs))) e)
 
 pub settle-passes : (next : ℕ → List Run → List Event) (t v : ℕ) (rs : List Run) → equal v rs < t → settle next t v rs ≡ next v rs
 unfolding settle equal
-settle-passes next t v rs h = rw (lt-leb t (count (λ r. eqb (head r) v) rs) h, settle)
+settle-passes next t v rs h = rw (lt-leb t (weightOf (λ r. eqb (head r) v) rs) h, settle)
 
 pub settle-answers : (next : ℕ → List Run → List Event) (t v : ℕ) (rs : List Run) → t ≤ equal v rs → v ≢ lastBin
     → settle next t v rs ≡ wrote (answer v (mask (λ r. eqb (head r) v) rs)) ∷ next (suc v) (map (movedOn v) rs)
 unfolding settle equal
-settle-answers next t v rs h n = rw (le-leb t (count (λ r. eqb (head r) v) rs) h, ne-eqb v lastBin n, settle)
+settle-answers next t v rs h n = rw (le-leb t (weightOf (λ r. eqb (head r) v) rs) h, ne-eqb v lastBin n, settle)
 
 pub settle-ends : (next : ℕ → List Run → List Event) (t v : ℕ) (rs : List Run) → t ≤ equal v rs → v ≡ lastBin
     → settle next t v rs ≡ wrote (answer v (mask (λ r. eqb (head r) v) rs)) ∷ []
 unfolding settle equal
-settle-ends next t v rs h n = rw (le-leb t (count (λ r. eqb (head r) v) rs) h, eq-eqb v lastBin n, settle)
+settle-ends next t v rs h n = rw (le-leb t (weightOf (λ r. eqb (head r) v) rs) h, eq-eqb v lastBin n, settle)

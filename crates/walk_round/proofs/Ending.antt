@@ -1,18 +1,20 @@
--- A round as the code takes it: the last gap where too few of the chosen runs have a head, and the t-th key otherwise. Assumes nothing.
+-- A round as the code takes it: the last gap where the chosen runs with a head weigh too little, and the head up to which they weigh enough otherwise. Assumes
+-- nothing.
 use Prim.Native.Nat.{ℕ, _-_, _/_, _≤_, _<_}
 use lib.Dec.{ltb}
-use lib.ListN.{length, getD, drop, length-drop}
+use lib.ListN.{length, drop}
 use mathlib.Core.List.{List, [], _∷_, List·Memᴰ}
+use mathlib.Core.Logic.{⊎-elim, _≢_}
 use mathlib.Core.Path.{_≡_, sym, ap, _∙_, subst}
 use native.Mathlib.Omega.{arith}
 use Rattle.model.specs.Certificate.{gap}
-use Rattle.model.specs.Runs.{Run, lastBin, pastBin, mask, maskOfAll, mostRuns}
-use Rattle.model.specs.Walk.{wrote, head, round, walk}
+use Rattle.model.specs.Runs.{Run, lastBin, pastBin, weightOfAll, mask, maskOfAll, mostRuns}
+use Rattle.model.specs.Walk.{wrote, head, enoughHead, round, walk}
 use Rattle.model.specs.Rows.{below}
-use Rattle.model.proofs.Chosen.{chosen-mem}
+use Rattle.model.proofs.Heads.{Heads, enough-past, enough-none}
 use Rattle.model.proofs.Masks.{Ascending}
-use Rattle.walk_keys.specs.Row.{noKey, labelSum, nthHead}
-use Rattle.walk_keys.proofs.Row.{member-at}
+use Rattle.model.proofs.Tests.{lt-or-le}
+use Rattle.walk_keys.specs.Row.{noKey, labelSum, reachedHead, HaveWeights}
 use Rattle.walk_progress.proofs.Progress.{onward-end}
 use Rattle.walk_tally.specs.Tally.{undoubled}
 use Rattle.walk_write.specs.Writes.{countsOf, goesOn, endsWith, Fitted, LastReady, LastGap}
@@ -22,38 +24,48 @@ use Rattle.walk_write.specs.declared.State.{State}
 use Rattle.walk_write.specs.declared.Turn.{Turn}
 use Rattle.walk_write.specs.declared.Turn.the-variants.{On, Done, Stopped}
 use Rattle.walk_advance.proofs.Advancing.{heads-small}
-use Rattle.walk_settle.proofs.Choosing.{chosen-labels, chosen-small, chosen-order, chosen-number, mask-of-chosen}
+use Rattle.walk_settle.proofs.Choosing.{chosen-labels, chosen-within, chosen-small, chosen-weigh, chosen-rises, chosen-order, chosen-met, mask-of-chosen}
 use Rattle.walk_progress.proofs.Rounds.{gap-mask, front-in-all, round-ends}
-use Rattle.walk_write.proofs.Rows.{row-labels, row-bins, row-length, row-mask, tth-key}
+use Rattle.walk_write.proofs.Rows.{row-labels, row-bins, row-mask, row-weights, reached-is}
 use Rattle.walk_state.proofs.Moving.{past-is}
-use Rattle.walk_state.specs.State.{runsAt, chosenAt, InOrder}
+use Rattle.walk_state.specs.State.{chosenAt, InOrder}
 
-module _ (numbers ends positions keys A B : List ℕ) (m t : ℕ) (w : State) (s : Stands numbers ends positions keys t w)
-    (c : Chooses m numbers ends positions t) (fits : Fitted A B w) where
+module _ (numbers ends ws positions keys A B : List ℕ) (m t : ℕ) (w : State) (s : Stands numbers ends ws positions keys t w)
+    (c : Chooses m numbers ends ws positions t) (fits : Fitted A B w) where
   abbrev cs : List Run
-  cs = chosenAt m numbers positions ends
+  cs = chosenAt ws m numbers positions ends
 
   abbrev row : List ℕ
   row = drop (w .start) keys
 
   labels : Ascending 0 cs
-  labels = chosen-labels numbers ends positions m t c keys (w .start) (s .few) (s .holds)
+  labels = chosen-labels numbers ends ws positions m t c keys (w .start) (s .few) (s .holds)
 
   small : (r : Run) → List·Memᴰ r cs → r .label < mostRuns
-  small = chosen-small numbers ends positions m t c keys (w .start) (s .few) (s .holds)
+  small = chosen-small numbers ends ws positions m t c keys (w .start) (s .few) (s .holds)
 
   order : InOrder cs row
-  order = chosen-order numbers ends positions m t c keys (w .start) (s .few) (s .holds)
+  order = chosen-order numbers ends ws positions m t c keys (w .start) (s .few) (s .holds)
 
   all-chosen : maskOfAll cs ≡ m
-  all-chosen = mask-of-chosen numbers ends positions m t c keys (w .start) (s .few) (s .holds)
+  all-chosen = mask-of-chosen numbers ends ws positions m t c keys (w .start) (s .few) (s .holds)
 
-  -- the row has a key for each chosen run with a head
-  row-is : length row ≡ length ends - w .start
-  row-is = let e = s .holds .size in let d = length-drop (w .start) keys in omega arith
+  heads : Heads cs
+  heads = heads-small (w .floor) cs (chosen-rises numbers ends ws positions m t c keys (w .start) (s .few) (s .holds) (w .floor) (s .rising))
 
-  row-below : length row ≡ below pastBin cs
-  row-below = row-length cs labels small row order
+  met : t ≤ weightOfAll cs
+  met = chosen-met numbers ends ws positions m t c keys (w .start) (s .few) (s .holds)
+
+  pub reach-ready : (0 < t) × (w .start ≤ length keys) × HaveWeights ws row
+  reach-ready = (
+    s .some,
+    s .holds .starts,
+    row-weights cs labels small row order ws (length ends) (s .row) (chosen-within numbers ends ws positions m t c keys (w .start) (s .few) (s .holds)),
+  )
+
+  -- the head that the row gives
+  reached : reachedHead ws t row ≡ enoughHead t cs
+  reached = reached-is cs labels small row order ws (chosen-weigh numbers ends ws positions m t c keys (w .start) (s .few) (s .holds)) t (s .some) met heads
 
   row-named : labelSum row ≡ mask (λ r. ltb (head r) pastBin) cs
   row-named = row-mask cs labels small row order
@@ -77,15 +89,13 @@ module _ (numbers ends positions keys A B : List ℕ) (m t : ℕ) (w : State) (s
       }
 
   -- the gap that is written is the round's
-  last-round : length ends - w .start < t → (n : ℕ) → round (walk n t) t (w .floor) cs ≡ wrote (gap (w .floor) lastBin (m - labelSum row)) ∷ []
+  last-round : reachedHead ws t row ≡ pastBin → (n : ℕ) → round (walk n t) t (w .floor) cs ≡ wrote (gap (w .floor) lastBin (m - labelSum row)) ∷ []
   last-round h n =
-      let a = row-is in
-      let b = row-below in
-      round-ends (walk n t) t (w .floor) cs (omega arith)
+      round-ends (walk n t) t (w .floor) cs (enough-none t cs heads (s .some) met .0 (sym reached ∙ h))
       ∙ λ i. wrote (gap (w .floor) lastBin ((sym (gap-mask cs pastBin) ∙ λ j. all-chosen j - sym row-named j) i)) ∷ []
 
-  pub ends-there : (B′ : List ℕ) (r : Turn) → length ends - w .start < t → LastGap m keys w B B′ r
-      → Goes (λ n. round (walk n t) t (w .floor) cs) m numbers ends t w A B positions keys A B′ r × Raises (w .floor) r
+  pub ends-there : (B′ : List ℕ) (r : Turn) → reachedHead ws t row ≡ pastBin → LastGap m keys w B B′ r
+      → Goes (λ n. round (walk n t) t (w .floor) cs) m numbers ends ws t w A B positions keys A B′ r × Raises (w .floor) r
   unfolding goesOn endsWith
   ends-there B′ (On x) h g = absurd g
   ends-there B′ (Done x) h g =
@@ -109,28 +119,21 @@ module _ (numbers ends positions keys A B : List ℕ) (m t : ℕ) (w : State) (s
         tt,
       )
 
-  -- the t-th key's head
-  pub head-bin : t ≤ length ends - w .start → nthHead t row < pastBin
-  unfolding nthHead
-  head-bin h =
-      let e = row-is in
-      let z = s .some in
-      bins (getD row (t - 1) 0) (member-at row (t - 1) (omega arith))
+  -- a head that is reached is a bin
+  pub head-bin : reachedHead ws t row ≢ pastBin → reachedHead ws t row < pastBin
+  head-bin h = let e = reached in let l = enough-past t cs in omega arith
 
-  pub head-fits : t ≤ length ends - w .start → nthHead t row < 4294967296
+  pub head-fits : reachedHead ws t row ≢ pastBin → reachedHead ws t row < 4294967296
   head-fits h = let b = head-bin h in let e = past-is in omega arith
 
-  pub advances : t ≤ length ends - w .start → Advances m numbers ends positions t (nthHead t row)
-  unfolding nthHead
+  pub advances : reachedHead ws t row ≢ pastBin → Advances m numbers ends ws positions t (reachedHead ws t row)
   advances h =
-      let e = row-is in
-      let f = row-below in
-      let z = s .some in
-      let n = chosen-number numbers ends positions m t c keys (w .start) (s .few) (s .holds) in
-      let k = c .enough in
       record {
         bin = head-bin h;
-        left = omega arith;
-        least = tth-key cs labels small row order t (t - 1) (omega arith) (omega arith)
-            (heads-small (w .floor) cs (λ r i. s .rising r (chosen-mem m (runsAt 0 numbers positions ends) i .0))) (omega arith);
+        left =
+            ⊎-elim
+            (λ (q : below pastBin cs < t). absurd (h (reached ∙ enough-none t cs heads (s .some) met .1 q)))
+            (λ (q : t ≤ below pastBin cs). q)
+            (lt-or-le (below pastBin cs) t);
+        least = sym reached;
       }

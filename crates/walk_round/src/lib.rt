@@ -1,5 +1,5 @@
-// One round of the walk over the chosen runs (docs/SPECIFICATION.md, 'The walk'): the last gap where too few have a head, and otherwise a round from the t-th
-// smallest head on.
+// One round of the walk over the chosen runs (docs/SPECIFICATION.md, 'The walk'): the last gap where those with a head weigh too little, and otherwise a round from
+// the head on up to which they weigh enough.
 ghost use Rattle.model.specs.Walk.{round, walk};
 ghost use Rattle.walk_state.specs.State.{chosenAt};
 ghost use Rattle.walk_write.specs.Writes.{Fitted};
@@ -8,10 +8,11 @@ ghost use Rattle.walk_advance.specs.Advances.{Raises};
 use walk_write::State;
 use walk_write::Turn;
 
-// One round. It ends the walk where too few of the chosen runs have a head.
+// One round. It ends the walk where the chosen runs with a head weigh less than `threshold`.
 pub fn round(
     numbers: &[u32],
     ends: &[u32],
+    weights: &[u32],
     chosen: u64,
     threshold: usize,
     positions: &mut [u32],
@@ -20,18 +21,18 @@ pub fn round(
     certificate: &mut [u8],
     w: State,
 ) -> Turn
-    requires { ⌜ Stands (now numbers) (now ends) (now positions) (now keys) threshold w × Chooses chosen (now numbers) (now ends) (now positions) threshold × Fitted (now answers) (now certificate) w ⌝ }
-    ensures goes { λ r. ⌜ Goes (λ n. round (walk n threshold) threshold (w .floor) (chosenAt chosen (now (numbers .entry)) (now (positions .entry)) (now (ends .entry)))) chosen (now (numbers .entry)) (now (ends .entry)) threshold w (now (answers .entry)) (now (certificate .entry)) (now (positions .exit)) (now (keys .exit)) (now (answers .exit)) (now (certificate .exit)) r ⌝ }
+    requires { ⌜ Stands (now numbers) (now ends) (now weights) (now positions) (now keys) threshold w × Chooses chosen (now numbers) (now ends) (now weights) (now positions) threshold × Fitted (now answers) (now certificate) w ⌝ }
+    ensures goes { λ r. ⌜ Goes (λ n. round (walk n threshold) threshold (w .floor) (chosenAt (now (weights .entry)) chosen (now (numbers .entry)) (now (positions .entry)) (now (ends .entry)))) chosen (now (numbers .entry)) (now (ends .entry)) (now (weights .entry)) threshold w (now (answers .entry)) (now (certificate .entry)) (now (positions .exit)) (now (keys .exit)) (now (answers .exit)) (now (certificate .exit)) r ⌝ }
     ensures raises { λ r. ⌜ Raises (w .floor) r ⌝ }
 {
-    let start = w.start;
-    if ends.len() - start < threshold {
+    let v = walk_keys::reached_head(keys, w.start, weights, threshold);
+    if v == limits::PAST_BIN {
         return walk_write::last_gap(chosen, keys, certificate, w);
     }
-    let v = walk_keys::nth_head(keys, start, threshold);
     walk_advance::advance(
         numbers,
         ends,
+        weights,
         chosen,
         threshold,
         positions,

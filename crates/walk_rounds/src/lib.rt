@@ -16,6 +16,7 @@ pub struct End {
 pub fn all_rounds(
     numbers: &[u32],
     ends: &[u32],
+    weights: &[u32],
     chosen: u64,
     threshold: usize,
     positions: &mut [u32],
@@ -24,14 +25,15 @@ pub fn all_rounds(
     certificate: &mut [u8],
     w: State,
 ) -> End
-    requires { ⌜ Stands (now numbers) (now ends) (now positions) (now keys) threshold w × Chooses chosen (now numbers) (now ends) (now positions) threshold × Fitted (now answers) (now certificate) w ⌝ }
-    ensures { λ r. ⌜ Finishes (chosenAt chosen (now (numbers .entry)) (now (positions .entry)) (now (ends .entry))) threshold w (now (answers .entry)) (now (certificate .entry)) (now (answers .exit)) (now (certificate .exit)) r ⌝ }
+    requires { ⌜ Stands (now numbers) (now ends) (now weights) (now positions) (now keys) threshold w × Chooses chosen (now numbers) (now ends) (now weights) (now positions) threshold × Fitted (now answers) (now certificate) w ⌝ }
+    ensures { λ r. ⌜ Finishes (chosenAt (now (weights .entry)) chosen (now (numbers .entry)) (now (positions .entry)) (now (ends .entry))) threshold w (now (answers .entry)) (now (certificate .entry)) (now (answers .exit)) (now (certificate .exit)) r ⌝ }
 {
     let mut x = w;
     loop {
         match walk_round::round(
             numbers,
             ends,
+            weights,
             chosen,
             threshold,
             positions,

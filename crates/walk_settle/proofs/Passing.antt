@@ -12,8 +12,8 @@ use mathlib.Core.Path.{_≡_, refl, sym, ap, _∙_, subst}
 use native.Mathlib.Omega.{arith}
 use Rattle.model.specs.Runs.{Run, lastBin, pastBin, total, mask, names, mostRuns, maskBits}
 use Rattle.model.specs.Walk.{head, headOf, movedOn}
-use Rattle.model.proofs.Count.{total-eq, count-eq}
-use Rattle.model.specs.Rows.{Rise, below, equal, Ordered}
+use Rattle.model.proofs.Count.{total-eq}
+use Rattle.model.specs.Rows.{Rise, Ordered}
 use Rattle.model.proofs.From.{from-past-head, from-other-head, rise-from, head-least}
 use Rattle.model.proofs.Masks.{Ascending, ascending, label-below, mask-only}
 use Rattle.model.proofs.Ordered.{ordered-drop}
@@ -28,7 +28,7 @@ use Rattle.walk_write.specs.declared.Turn.the-variants.{On, Done}
 use Rattle.walk_write.proofs.Rows.{row-labels, row-sum, front-names, rest-same}
 use Rattle.walk_state.proofs.Moving.{runs-at-length, runs-at-labels}
 use Rattle.walk_state.specs.Moves.{stepNamed, StepReady}
-use Rattle.walk_state.specs.State.{runsAt, weigh, notNamed, Holds, Lacks}
+use Rattle.walk_state.specs.State.{runsAt, keyed, notNamed, Holds, Lacks}
 
 -- what holds of the runs that the rows hold
 module _ (numbers ends positions keys : List ℕ) (start : ℕ) (few : length ends ≤ mostRuns)
@@ -66,7 +66,7 @@ module _ (numbers ends positions keys : List ℕ) (start : ℕ) (few : length en
         ordered = subst (λ x. Ordered 0 x) (sym w) (ordered-drop (belowCount (u * 256) (drop start keys)) (drop start keys) (h .order .ordered));
         same = λ g.
             ap (sumOf g) w
-            ∙ (rest-same rs labels small (drop start keys) (h .order) u b g ∙ ap (λ x. total (notNamed x (weigh g)) rs) (sym f));
+            ∙ (rest-same rs labels small (drop start keys) (h .order) u b g ∙ ap (λ x. total (notNamed x (keyed g)) rs) (sym f));
         only = subst (λ x. named < 2 ^ x) number (subst (λ x. x < 2 ^ length rs) (sym f) (mask-only (λ r. ltb (head r) u) rs (runs-at-labels 0 numbers positions ends)));
       }
 
@@ -89,10 +89,6 @@ pub floor-mask : (v : ℕ) (rs : List Run) → ((r : Run) → List·Memᴰ r rs 
 unfolding mask
 floor-mask v rs h = total-eq _ _ rs (λ r m. ap (λ x. Rattle.model.specs.Runs.one x * 2 ^ r .label) (at-floor v (head r) (h r m)))
 
-pub floor-count : (v : ℕ) (rs : List Run) → ((r : Run) → List·Memᴰ r rs → v ≤ head r) → below (v + 1) rs ≡ equal v rs
-unfolding below equal
-floor-count v rs h = count-eq _ _ rs (λ r m. at-floor v (head r) (h r m))
-
 -- ---- past an answer
 
 step-is : (v named : ℕ) (r : Run) → names named r ≡ eqb (head r) v → stepNamed named r ≡ movedOn v r
@@ -111,7 +107,7 @@ moved-rises v r b h =
     (λ (q : headOf (r .bins) ≢ v). rw (ne-eqb (headOf (r .bins)) v q, movedOn) (subst (λ x. Rise (suc v) x) (from-other-head h q) (rise-from (suc v) (r .bins) h)))
     (eq-or-ne (headOf (r .bins)) v)
 
-module _ (numbers ends positions keys : List ℕ) (t : ℕ) (w : State) (n named : ℕ) (s : Stands numbers ends positions keys t w)
+module _ (numbers ends ws positions keys : List ℕ) (t : ℕ) (w : State) (n named : ℕ) (s : Stands numbers ends ws positions keys t w)
     (a : AtFloor numbers ends positions keys w n named) where
   abbrev runs′ : List Run
   runs′ = runsAt 0 numbers positions ends
@@ -139,7 +135,7 @@ module _ (numbers ends positions keys : List ℕ) (t : ℕ) (w : State) (n named
 
   pub passed-on : (positions′ keys′ : List ℕ) (start : ℕ) → w .floor ≢ lastBin
       → Holds numbers ends positions′ keys′ start (map (stepNamed named) runs′)
-      → Passes numbers ends positions t w positions′ keys′
+      → Passes numbers ends ws positions t w positions′ keys′
       (On (record { floor = w .floor + 1; start = start; answers = w .answers; parts = w .parts; bytes = w .bytes; tally = w .tally }))
   unfolding countsOf
   passed-on positions′ keys′ start q h =
@@ -150,6 +146,7 @@ module _ (numbers ends positions keys : List ℕ) (t : ℕ) (w : State) (n named
       h .runs-are ∙ map-same (stepNamed named) (movedOn (w .floor)) runs′ (λ r k. step-is (w .floor) named r (names-equal r k)) in
       let j : map (stepNamed named) runs′ ≡ runsAt 0 numbers positions′ ends = sym (h .runs-are) in (
         record {
+          row = s .row;
           few = s .few;
           some = s .some;
           holds = subst (λ x. Holds numbers ends positions′ keys′ start x) j h;
@@ -167,5 +164,5 @@ module _ (numbers ends positions keys : List ℕ) (t : ℕ) (w : State) (n named
         λ A B f. record { answered = f .answered; written = f .written; parts = f .parts },
       )
 
-  pub passed-last : w .floor ≡ lastBin → (positions′ keys′ : List ℕ) → Passes numbers ends positions t w positions′ keys′ (Done w)
+  pub passed-last : w .floor ≡ lastBin → (positions′ keys′ : List ℕ) → Passes numbers ends ws positions t w positions′ keys′ (Done w)
   passed-last q positions′ keys′ = (q, refl)

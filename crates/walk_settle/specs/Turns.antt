@@ -4,7 +4,6 @@ use Prim.Native.Nat.{ℕ, suc, _+_, _-_, _*_, _^_, _≤_, _<_}
 use mathlib.Core.List.{List, map, List·Memᴰ}
 use mathlib.Core.Logic.{_⊎_}
 use mathlib.Core.Path.{_≡_}
-use lib.Count.{ones}
 use lib.Dec.{eqb}
 use lib.ListN.{length, drop}
 use Rattle.model.specs.Rows.{Rise, equal}
@@ -17,9 +16,11 @@ use Rattle.walk_write.specs.declared.Turn.the-variants.{On, Done, Stopped}
 use Rattle.walk_state.specs.State.{runsAt, chosenAt, Holds, Idle}
 use Rattle.walk_tally.specs.Tally.{undoubled}
 use Rattle.walk_write.specs.Writes.{countsOf, goesOn, endsWith, Fitted}
+use Rattle.weights.specs.Named.{namedWeight}
 
--- a state before a round: the rows hold the runs, which rise from the floor on, and its allowance is one of 32 bits
-pub record Stands (numbers ends positions keys : List ℕ) (t : ℕ) (w : State) : Type 0 where
+-- a state before a round: the rows hold the runs, which rise from the floor on, there is a weight for each run or none, and its allowance is one of 32 bits
+pub record Stands (numbers ends weights positions keys : List ℕ) (t : ℕ) (w : State) : Type 0 where
+  pub row : 0 < length weights → length weights ≡ length ends
   pub few : length ends ≤ mostRuns
   pub some : 0 < t
   pub holds : Holds numbers ends positions keys (w .start) (runsAt 0 numbers positions ends)
@@ -27,22 +28,22 @@ pub record Stands (numbers ends positions keys : List ℕ) (t : ℕ) (w : State)
   pub bin : w .floor < pastBin
   pub allowed : undoubled (w .tally) < 4294967296
 
--- a mask chooses some of these runs, at least t, and no other has a number left
-pub record Chooses (m : ℕ) (numbers ends positions : List ℕ) (t : ℕ) : Type 0 where
+-- a mask chooses some of these runs, which weigh at least t, and no other has a number left
+pub record Chooses (m : ℕ) (numbers ends weights positions : List ℕ) (t : ℕ) : Type 0 where
   pub only : m < 2 ^ length ends
-  pub enough : t ≤ ones m
+  pub enough : t ≤ namedWeight weights m
   pub idle : Idle m (runsAt 0 numbers positions ends)
 
 -- what a walk over the runs that a mask chooses comes to after these events, of which the last are rounds of any number
-abbrev pub Goes : (ℕ → List Event) → ℕ → List ℕ → List ℕ → ℕ → State → List ℕ → List ℕ → List ℕ → List ℕ → List ℕ → List ℕ → Turn → Type 0
-Goes es m numbers ends t w answers certificate positions′ keys′ answers′ certificate′ (On w′) =
-    Stands numbers ends positions′ keys′ t w′ × Chooses m numbers ends positions′ t × Fitted answers′ certificate′ w′ × (undoubled (w′ .tally) ≤ undoubled (w .tally))
+abbrev pub Goes : (ℕ → List Event) → ℕ → List ℕ → List ℕ → List ℕ → ℕ → State → List ℕ → List ℕ → List ℕ → List ℕ → List ℕ → List ℕ → Turn → Type 0
+Goes es m numbers ends weights t w answers certificate positions′ keys′ answers′ certificate′ (On w′) =
+    Stands numbers ends weights positions′ keys′ t w′ × Chooses m numbers ends weights positions′ t × Fitted answers′ certificate′ w′ × (undoubled (w′ .tally) ≤ undoubled (w .tally))
     × ((allowance n : ℕ) → undoubled (w .tally) ≤ allowance → goesOn allowance w answers certificate (es n)
-    ≡ goesOn allowance w′ answers′ certificate′ (walk n t (w′ .floor) (chosenAt m numbers positions′ ends)))
-Goes es m numbers ends t w answers certificate positions′ keys′ answers′ certificate′ (Done w′) =
+    ≡ goesOn allowance w′ answers′ certificate′ (walk n t (w′ .floor) (chosenAt weights m numbers positions′ ends)))
+Goes es m numbers ends weights t w answers certificate positions′ keys′ answers′ certificate′ (Done w′) =
     (undoubled (w′ .tally) ≤ undoubled (w .tally))
     × ((allowance n : ℕ) → undoubled (w .tally) ≤ allowance → goesOn allowance w answers certificate (es n) ≡ endsWith 0 allowance w′ answers′ certificate′)
-Goes es m numbers ends t w answers certificate positions′ keys′ answers′ certificate′ (Stopped x w′) =
+Goes es m numbers ends weights t w answers certificate positions′ keys′ answers′ certificate′ (Stopped x w′) =
     (0 < x) × (undoubled (w′ .tally) ≤ undoubled (w .tally))
     × ((allowance n : ℕ) → undoubled (w .tally) ≤ allowance → goesOn allowance w answers certificate (es n) ≡ endsWith x allowance w′ answers′ certificate′)
 
@@ -58,11 +59,11 @@ pub record AtFloor (numbers ends positions keys : List ℕ) (w : State) (number 
   pub names-them : named ≡ mask (λ r. eqb (head r) (w .floor)) (runsAt 0 numbers positions ends)
 
 -- past an answer: the walk ends at the last bin, and goes on from the next one otherwise
-abbrev pub Passes : List ℕ → List ℕ → List ℕ → ℕ → State → List ℕ → List ℕ → Turn → Type 0
-Passes numbers ends positions t w positions′ keys′ (On w′) =
-    Stands numbers ends positions′ keys′ t w′ × (w .floor < lastBin) × (w′ .floor ≡ suc (w .floor))
+abbrev pub Passes : List ℕ → List ℕ → List ℕ → List ℕ → ℕ → State → List ℕ → List ℕ → Turn → Type 0
+Passes numbers ends weights positions t w positions′ keys′ (On w′) =
+    Stands numbers ends weights positions′ keys′ t w′ × (w .floor < lastBin) × (w′ .floor ≡ suc (w .floor))
     × (runsAt 0 numbers positions′ ends ≡ map (movedOn (w .floor)) (runsAt 0 numbers positions ends))
     × ((allowance : ℕ) → countsOf allowance w′ ≡ countsOf allowance w) × (w′ .tally ≡ w .tally)
     × ((answers certificate : List ℕ) → Fitted answers certificate w → Fitted answers certificate w′)
-Passes numbers ends positions t w positions′ keys′ (Done w′) = (w .floor ≡ lastBin) × (w′ ≡ w)
-Passes numbers ends positions t w positions′ keys′ (Stopped x w′) = ⊥
+Passes numbers ends weights positions t w positions′ keys′ (Done w′) = (w .floor ≡ lastBin) × (w′ ≡ w)
+Passes numbers ends weights positions t w positions′ keys′ (Stopped x w′) = ⊥

@@ -19,7 +19,7 @@ use Rattle.model.proofs.Masks.{Labelled, below-only}
 use Rattle.model.proofs.Slices.{drop-part}
 use Rattle.model.proofs.Tests.{both, lt-or-le, eq-or-ne}
 use Rattle.walk_state.specs.Moves.{Placeable, stepNamed}
-use Rattle.walk_state.specs.State.{noRun, runsAt, weigh, Inside, notNamed}
+use Rattle.walk_state.specs.State.{noRun, runsAt, keyed, Inside, notNamed}
 use Rattle.walk_state.proofs.Moving.{run-at, runs-at-set, label-at, pending, pending-named, pending-moved, not-named-zero, not-named-is, Cleared, state-step}
 
 pub record Placed (numbers ends : List ℕ) (rs : List Run) (m : Run → Run) (rest : ℕ) (positions : List ℕ) : Type 0 where
@@ -63,9 +63,9 @@ placed-end numbers ends positions rest rs m p e =
 
 -- ---- one turn
 
-pub weigh-one : (r : Run) → weigh (λ k. 1) r ≤ 1
-unfolding weigh
-weigh-one r = ⊎-elim (λ (q : ltb (head r) pastBin ≡ true). rw (q, weigh) (omega arith)) (λ (q : ltb (head r) pastBin ≡ false). rw (q, weigh) (omega arith)) (both (ltb (head r) pastBin))
+pub weigh-one : (r : Run) → keyed (λ k. 1) r ≤ 1
+unfolding keyed
+weigh-one r = ⊎-elim (λ (q : ltb (head r) pastBin ≡ true). rw (q, keyed) (omega arith)) (λ (q : ltb (head r) pastBin ≡ false). rw (q, keyed) (omega arith)) (both (ltb (head r) pastBin))
 
 -- a sum of ones over the runs that are not named, where a run is named
 pub some-free : (rest : ℕ) (c : Run → ℕ) (rs : List Run) → ((r : Run) → c r ≤ 1) → (j : ℕ) → j < length rs → names rest (getD rs j noRun) ≡ true
@@ -94,7 +94,7 @@ some-free rest c (r ∷ rs) h (suc j) l e =
     (λ q. let y = not-named-is rest c r q in omega arith)
     (both (names rest r))
 
-pub head-of : (l : ℕ) (s : List ℕ) → head (record { label = l; bins = s }) ≡ headOf s
+pub head-of : (l : ℕ) (s : List ℕ) → head (record { label = l; weight = 1; bins = s }) ≡ headOf s
 unfolding head
 head-of l s = refl
 
@@ -116,7 +116,7 @@ module _ (numbers ends positions : List ℕ) (rest run : ℕ) (rs : List Run) (m
   placeable = let i = index in record { index = i; small = omega arith; inside = p .inside }
 
   -- the run is where it was
-  pub run-is : getD rs run noRun ≡ record { label = run; bins = slice numbers (getD positions run 0) (getD ends run 0) }
+  pub run-is : getD rs run noRun ≡ record { label = run; weight = 1; bins = slice numbers (getD positions run 0) (getD ends run 0) }
   run-is =
       let i = index in
       let n : run < length rs = omega arith in
@@ -125,11 +125,11 @@ module _ (numbers ends positions : List ℕ) (rest run : ℕ) (rs : List Run) (m
       ∙ (sym (getD-map (pending m rest) rs run n)
       ∙ (ap (λ x. getD x run noRun) (sym (p .runs-are))
       ∙ (run-at 0 numbers positions ends run (p .inside .lengths) i
-      ∙ λ d. record { label = z d; bins = slice numbers (getD positions run 0) (getD ends run 0) })))
+      ∙ λ d. record { label = z d; weight = 1; bins = slice numbers (getD positions run 0) (getD ends run 0) })))
 
   -- the next turn, after the run has been moved to q
   pub placed-on : (rest′ q : ℕ) (positions′ : List ℕ) → Cleared rest rest′ run → rest′ < rest
-      → m (getD rs run noRun) ≡ record { label = run; bins = slice numbers q (getD ends run 0) }
+      → m (getD rs run noRun) ≡ record { label = run; weight = 1; bins = slice numbers q (getD ends run 0) }
       → positions′ ≡ set positions run q → q ≤ getD ends run 0 → Placed numbers ends rs m rest′ positions′
   placed-on rest′ q positions′ cleared less e are order =
       let i = index in
@@ -145,7 +145,7 @@ module _ (numbers ends positions : List ℕ) (rest run : ℕ) (rs : List Run) (m
         runs-are =
             ap (λ x. runsAt 0 numbers x ends) are
             ∙ (runs-at-set 0 numbers positions ends run q (p .inside .lengths) i
-            ∙ ((λ d. set (runsAt 0 numbers positions ends) run (record { label = z d; bins = slice numbers q (getD ends run 0) }))
+            ∙ ((λ d. set (runsAt 0 numbers positions ends) run (record { label = z d; weight = 1; bins = slice numbers q (getD ends run 0) }))
             ∙ (ap₂ (λ x y. set x run y) (p .runs-are) (sym e) ∙ sym (state-step rs labels rest rest′ run cleared n m))));
         only = omega arith;
       }
@@ -169,34 +169,34 @@ pub searched-still : (v : ℕ) (r : Run) → ltb (head r) v ≡ false → search
 unfolding searched
 searched-still v r e = rw (e, searched)
 
-searched-moves : (v : ℕ) (r : Run) → ltb (head r) v ≡ true → searched v r ≡ record { label = r .label; bins = drop (seek v (r .bins) .place) (r .bins) }
+searched-moves : (v : ℕ) (r : Run) → ltb (head r) v ≡ true → searched v r ≡ record { label = r .label; weight = r .weight; bins = drop (seek v (r .bins) .place) (r .bins) }
 unfolding searched
 searched-moves v r e = rw (e, searched)
 
-pub search-move : (numbers : List ℕ) (v run p e : ℕ) (r : Run) → r ≡ record { label = run; bins = slice numbers p e } → ltb (head r) v ≡ true
-    → searched v r ≡ record { label = run; bins = slice numbers (p + seek v (slice numbers p e) .place) e }
+pub search-move : (numbers : List ℕ) (v run p e : ℕ) (r : Run) → r ≡ record { label = run; weight = 1; bins = slice numbers p e } → ltb (head r) v ≡ true
+    → searched v r ≡ record { label = run; weight = 1; bins = slice numbers (p + seek v (slice numbers p e) .place) e }
 search-move numbers v run p e r f h =
     ap (searched v) f
-    ∙ (searched-moves v (record { label = run; bins = slice numbers p e }) (ap (λ x. ltb (head x) v) (sym f) ∙ h)
-    ∙ λ d. record { label = run; bins = drop-part (seek v (slice numbers p e) .place) p e numbers d })
+    ∙ (searched-moves v (record { label = run; weight = 1; bins = slice numbers p e }) (ap (λ x. ltb (head x) v) (sym f) ∙ h)
+    ∙ λ d. record { label = run; weight = 1; bins = drop-part (seek v (slice numbers p e) .place) p e numbers d })
 
 pub step-still : (mask : ℕ) (r : Run) → names mask r ≡ false → stepNamed mask r ≡ r
 unfolding stepNamed
 step-still mask r e = rw (e, stepNamed)
 
-step-moves : (mask : ℕ) (r : Run) → names mask r ≡ true → stepNamed mask r ≡ record { label = r .label; bins = drop 1 (r .bins) }
+step-moves : (mask : ℕ) (r : Run) → names mask r ≡ true → stepNamed mask r ≡ record { label = r .label; weight = r .weight; bins = drop 1 (r .bins) }
 unfolding stepNamed
 step-moves mask r e = rw (e, stepNamed)
 
-pub step-move : (numbers : List ℕ) (mask run p e : ℕ) (r : Run) → r ≡ record { label = run; bins = slice numbers p e } → names mask r ≡ true
-    → stepNamed mask r ≡ record { label = run; bins = slice numbers (p + 1) e }
+pub step-move : (numbers : List ℕ) (mask run p e : ℕ) (r : Run) → r ≡ record { label = run; weight = 1; bins = slice numbers p e } → names mask r ≡ true
+    → stepNamed mask r ≡ record { label = run; weight = 1; bins = slice numbers (p + 1) e }
 step-move numbers mask run p e r f h =
     ap (stepNamed mask) f
-    ∙ (step-moves mask (record { label = run; bins = slice numbers p e }) (ap (names mask) (sym f) ∙ h)
-    ∙ λ d. record { label = run; bins = drop-part 1 p e numbers d })
+    ∙ (step-moves mask (record { label = run; weight = 1; bins = slice numbers p e }) (ap (names mask) (sym f) ∙ h)
+    ∙ λ d. record { label = run; weight = 1; bins = drop-part 1 p e numbers d })
 
 -- a run with a bin for a head has a number at its position
-pub has-number : (numbers : List ℕ) (run p e : ℕ) (r : Run) → r ≡ record { label = run; bins = slice numbers p e } → head r < pastBin → p < e
+pub has-number : (numbers : List ℕ) (run p e : ℕ) (r : Run) → r ≡ record { label = run; weight = 1; bins = slice numbers p e } → head r < pastBin → p < e
 unfolding head headOf
 has-number numbers run p e r f b =
     ⊎-elim

@@ -16,17 +16,17 @@ use Rattle.model.proofs.Tests.{both, lt-or-le, eq-or-ne, true-false}
 use Rattle.walk_keys.proofs.Row.{sum-insert, ordered-insert}
 use Rattle.model.specs.Rows.{Ordered}
 use Rattle.walk_keys.specs.Row.{insertKey, sumOf}
-use Rattle.walk_state.specs.State.{noRun, runsAt, keyOf, weigh, putHead, notNamed}
+use Rattle.walk_state.specs.State.{noRun, runsAt, keyOf, keyed, putHead, notNamed}
 
 -- ---- what a sum over keys adds for a run
 
-pub weigh-some : (g : ℕ → ℕ) (r : Run) → head r < pastBin → weigh g r ≡ g (keyOf r)
-unfolding weigh
-weigh-some g r h = rw (lt-ltb (head r) pastBin h, weigh)
+pub keyed-some : (g : ℕ → ℕ) (r : Run) → head r < pastBin → keyed g r ≡ g (keyOf r)
+unfolding keyed
+keyed-some g r h = rw (lt-ltb (head r) pastBin h, keyed)
 
-pub weigh-none : (g : ℕ → ℕ) (r : Run) → pastBin ≤ head r → weigh g r ≡ 0
-unfolding weigh
-weigh-none g r h = rw (le-ltb (head r) pastBin h, weigh)
+pub keyed-none : (g : ℕ → ℕ) (r : Run) → pastBin ≤ head r → keyed g r ≡ 0
+unfolding keyed
+keyed-none g r h = rw (le-ltb (head r) pastBin h, keyed)
 
 -- ---- runs at positions
 
@@ -45,32 +45,32 @@ runs-at-labels i numbers (p ∷ positions) (e ∷ ends) = labelled-cons refl (ru
 
 pub run-at : (i : ℕ) (numbers positions ends : List ℕ) (j : ℕ) → length positions ≡ length ends → j < length ends
     → getD (runsAt i numbers positions ends) j noRun
-    ≡ record { label = i + j; bins = take (getD ends j 0 - getD positions j 0) (drop (getD positions j 0) numbers) }
+    ≡ record { label = i + j; weight = 1; bins = take (getD ends j 0 - getD positions j 0) (drop (getD positions j 0) numbers) }
 unfolding runsAt
 run-at i numbers [] [] j h l = absurd (omega arith)
 run-at i numbers [] (e ∷ ends) j h l = absurd (omega arith)
 run-at i numbers (p ∷ positions) [] j h l = absurd (omega arith)
 run-at i numbers (p ∷ positions) (e ∷ ends) zero h l =
-    let k : i ≡ i + 0 = omega arith in λ d. record { label = k d; bins = take (e - p) (drop p numbers) }
+    let k : i ≡ i + 0 = omega arith in λ d. record { label = k d; weight = 1; bins = take (e - p) (drop p numbers) }
 run-at i numbers (p ∷ positions) (e ∷ ends) (suc j) h l =
     let k : suc i + j ≡ i + suc j = omega arith in
     run-at (suc i) numbers positions ends j (omega arith) (omega arith)
-    ∙ λ d. record { label = k d; bins = take (getD ends j 0 - getD positions j 0) (drop (getD positions j 0) numbers) }
+    ∙ λ d. record { label = k d; weight = 1; bins = take (getD ends j 0 - getD positions j 0) (drop (getD positions j 0) numbers) }
 
 pub runs-at-set : (i : ℕ) (numbers positions ends : List ℕ) (j q : ℕ) → length positions ≡ length ends → j < length ends
     → runsAt i numbers (set positions j q) ends
-    ≡ set (runsAt i numbers positions ends) j (record { label = i + j; bins = take (getD ends j 0 - q) (drop q numbers) })
+    ≡ set (runsAt i numbers positions ends) j (record { label = i + j; weight = 1; bins = take (getD ends j 0 - q) (drop q numbers) })
 unfolding runsAt
 runs-at-set i numbers [] [] j q h l = absurd (omega arith)
 runs-at-set i numbers [] (e ∷ ends) j q h l = absurd (omega arith)
 runs-at-set i numbers (p ∷ positions) [] j q h l = absurd (omega arith)
 runs-at-set i numbers (p ∷ positions) (e ∷ ends) zero q h l =
-    let k : i ≡ i + 0 = omega arith in λ d. record { label = k d; bins = take (e - q) (drop q numbers) } ∷ runsAt (suc i) numbers positions ends
+    let k : i ≡ i + 0 = omega arith in λ d. record { label = k d; weight = 1; bins = take (e - q) (drop q numbers) } ∷ runsAt (suc i) numbers positions ends
 runs-at-set i numbers (p ∷ positions) (e ∷ ends) (suc j) q h l =
     let k : suc i + j ≡ i + suc j = omega arith in
-    ap (λ x. record { label = i; bins = take (e - p) (drop p numbers) } ∷ x)
+    ap (λ x. record { label = i; weight = 1; bins = take (e - p) (drop p numbers) } ∷ x)
     (runs-at-set (suc i) numbers positions ends j q (omega arith) (omega arith)
-    ∙ λ d. set (runsAt (suc i) numbers positions ends) j (record { label = k d; bins = take (getD ends j 0 - q) (drop q numbers) }))
+    ∙ λ d. set (runsAt (suc i) numbers positions ends) j (record { label = k d; weight = 1; bins = take (getD ends j 0 - q) (drop q numbers) }))
 
 -- ---- one run changed
 
@@ -187,16 +187,16 @@ module _ (rs : List Run) (labels : Labelled 0 rs) (rest rest′ i : ℕ) (cleare
           (both (names rest r))
 
 -- a run's key put back
-pub put-sum : (g : ℕ → ℕ) (h i : ℕ) (row : List ℕ) (r : Run) → head r ≡ h → r .label ≡ i → sumOf g (putHead h i row) ≡ sumOf g row + weigh g r
-unfolding putHead weigh keyOf
+pub put-sum : (g : ℕ → ℕ) (h i : ℕ) (row : List ℕ) (r : Run) → head r ≡ h → r .label ≡ i → sumOf g (putHead h i row) ≡ sumOf g row + keyed g r
+unfolding putHead keyed keyOf
 put-sum g h i row r e f =
     ⊎-elim
     (λ (q : head r < pastBin).
     let k : head r * 256 + r .label ≡ h * 256 + i = omega arith in
-    rw (lt-ltb (head r) pastBin q, lt-ltb h pastBin (omega arith), putHead, weigh)
+    rw (lt-ltb (head r) pastBin q, lt-ltb h pastBin (omega arith), putHead, keyed)
     (sum-insert g (h * 256 + i) row ∙ (let w = ap g k in omega arith)))
     (λ (q : pastBin ≤ head r).
-    rw (le-ltb (head r) pastBin q, le-ltb h pastBin (omega arith), putHead, weigh) (omega arith))
+    rw (le-ltb (head r) pastBin q, le-ltb h pastBin (omega arith), putHead, keyed) (omega arith))
     (lt-or-le (head r) pastBin)
 
 pub put-ordered : (h i : ℕ) (row : List ℕ) → Ordered 0 row → Ordered 0 (putHead h i row)

@@ -59,7 +59,7 @@ pub record SearchReady (numbers ends positions keys : List ℕ) (start named v :
 
 -- a run that a mask names moved on by one
 unfoldable pub stepNamed : ℕ → Run → Run
-stepNamed mask r = elim (names mask r) [ true ↦ record { label = r .label; bins = drop 1 (r .bins) } | false ↦ r ]
+stepNamed mask r = elim (names mask r) [ true ↦ record { label = r .label; weight = r .weight; bins = drop 1 (r .bins) } | false ↦ r ]
 
 -- each of the runs that a mask names has a head
 pub record Steppable (numbers ends positions : List ℕ) (named : ℕ) : Type 0 where

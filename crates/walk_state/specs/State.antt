@@ -6,7 +6,7 @@ use mathlib.Core.Path.{_≡_}
 use lib.Dec.{ltb}
 use lib.ListN.{length, getD, drop}
 use Rattle.model.specs.Rows.{Ordered}
-use Rattle.model.specs.Runs.{Run, slice, pastBin, total, names, chosen}
+use Rattle.model.specs.Runs.{Run, slice, pastBin, weighted, total, names, chosen}
 use Rattle.model.specs.Walk.{head}
 use Rattle.walk_keys.specs.Row.{insertKey, sumOf}
 
@@ -15,18 +15,18 @@ unfoldable pub runsAt : ℕ → List ℕ → List ℕ → List ℕ → List Run
 runsAt i numbers [] ends = []
 runsAt i numbers (p ∷ positions) [] = []
 runsAt i numbers (p ∷ positions) (e ∷ ends) =
-    record { label = i; bins = slice numbers p e } ∷ runsAt (suc i) numbers positions ends
+    record { label = i; weight = 1; bins = slice numbers p e } ∷ runsAt (suc i) numbers positions ends
 
 -- the run where there is none
 abbrev pub noRun : Run
-noRun = record { label = 0; bins = [] }
+noRun = record { label = 0; weight = 1; bins = [] }
 
 -- a run's key, and what a sum over keys adds for it: nothing where the run has no head
 unfoldable pub keyOf : Run → ℕ
 keyOf r = head r * 256 + r .label
 
-unfoldable pub weigh : (ℕ → ℕ) → Run → ℕ
-weigh g r = elim (ltb (head r) pastBin) [ true ↦ g (keyOf r) | false ↦ 0 ]
+unfoldable pub keyed : (ℕ → ℕ) → Run → ℕ
+keyed g r = elim (ltb (head r) pastBin) [ true ↦ g (keyOf r) | false ↦ 0 ]
 
 -- the row of keys with the key of a run that has this head put in
 unfoldable pub putHead : ℕ → ℕ → List ℕ → List ℕ
@@ -35,7 +35,7 @@ putHead h i row = elim (ltb h pastBin) [ true ↦ insertKey (h * 256 + i) row | 
 -- The row is a rearrangement of the keys of the runs that have a head, in rising order: every sum over it is the sum over those runs.
 pub record InOrder (rs : List Run) (row : List ℕ) : Type 0 where
   pub ordered : Ordered 0 row
-  pub same : (g : ℕ → ℕ) → sumOf g row ≡ total (weigh g) rs
+  pub same : (g : ℕ → ℕ) → sumOf g row ≡ total (keyed g) rs
 
 -- every position lies in its run, and every run in the numbers
 pub record Inside (numbers positions ends : List ℕ) : Type 0 where
@@ -62,13 +62,13 @@ pub record Lacks (numbers ends positions keys : List ℕ) (start : ℕ) (rs : Li
   pub starts : start ≤ length keys
   pub runs-are : runsAt 0 numbers positions ends ≡ rs
   pub ordered : Ordered 0 (drop start keys)
-  pub same : (g : ℕ → ℕ) → sumOf g (drop start keys) ≡ total (notNamed named (weigh g)) rs
+  pub same : (g : ℕ → ℕ) → sumOf g (drop start keys) ≡ total (notNamed named (keyed g)) rs
   pub only : named < 2 ^ length ends
 
 -- no run has a number left but those that a mask chooses
 pub record Idle (chosen : ℕ) (rs : List Run) : Type 0 where
   pub each : (r : Run) → List·Memᴰ r rs → names chosen r ≡ false → r .bins ≡ []
 
--- the runs that a mask chooses, each at its position
-abbrev pub chosenAt : ℕ → List ℕ → List ℕ → List ℕ → List Run
-chosenAt m numbers positions ends = chosen m (runsAt 0 numbers positions ends)
+-- the runs that a mask chooses, each at its position and with its weight
+abbrev pub chosenAt : List ℕ → ℕ → List ℕ → List ℕ → List ℕ → List Run
+chosenAt weights m numbers positions ends = weighted weights (chosen m (runsAt 0 numbers positions ends))

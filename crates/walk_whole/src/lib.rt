@@ -3,11 +3,13 @@ ghost use Rattle.walk_whole.specs.Whole.{Asked, Begins, ComesTo};
 use walk_rounds::End;
 use walk_write::State;
 
-// The walk over the chosen runs, from its beginning to its end. `firsts` holds the places of all runs' first bins. `answered` answers and `written` bytes stand in
+// The walk over the chosen runs, from its beginning to its end. `weights` has a weight for each run, or none: then each weighs 1. `firsts` holds the places of all
+// runs' first bins. `answered` answers and `written` bytes stand in
 // the buffers, and the walk writes after them; `tally` tells how its probes are spent so far (walk_tally). Parts are counted from 0.
 fn whole_walk(
     numbers: &[u32],
     ends: &[u32],
+    weights: &[u32],
     chosen: u64,
     threshold: usize,
     positions: &mut [u32],
@@ -19,13 +21,14 @@ fn whole_walk(
     tally: u64,
     firsts: &[u32],
 ) -> End
-    requires { ⌜ Begins (now numbers) (now ends) (now firsts) chosen threshold (now positions) (now keys) (now answers) (now certificate) answered written tally ⌝ }
-    ensures { λ r. ⌜ ComesTo (now (numbers .entry)) (now (ends .entry)) chosen threshold answered written tally (now (answers .entry)) (now (certificate .entry)) (now (answers .exit)) (now (certificate .exit)) r ⌝ }
+    requires { ⌜ Begins (now numbers) (now ends) (now weights) (now firsts) chosen threshold (now positions) (now keys) (now answers) (now certificate) answered written tally ⌝ }
+    ensures { λ r. ⌜ ComesTo (now (numbers .entry)) (now (ends .entry)) (now (weights .entry)) chosen threshold answered written tally (now (answers .entry)) (now (certificate .entry)) (now (answers .exit)) (now (certificate .exit)) r ⌝ }
 {
     let start = walk_begin::begin(numbers, ends, firsts, chosen, positions, keys);
     walk_rounds::all_rounds(
         numbers,
         ends,
+        weights,
         chosen,
         threshold,
         positions,
@@ -48,6 +51,7 @@ fn whole_walk(
 pub fn question_walk(
     numbers: &[u32],
     ends: &[u32],
+    weights: &[u32],
     chosen: u64,
     threshold: usize,
     answers: &mut [u32],
@@ -57,8 +61,8 @@ pub fn question_walk(
     tally: u64,
     firsts: &[u32],
 ) -> End
-    requires { ⌜ Asked (now numbers) (now ends) (now firsts) chosen threshold (now answers) (now certificate) answered written tally ⌝ }
-    ensures { λ r. ⌜ ComesTo (now (numbers .entry)) (now (ends .entry)) chosen threshold answered written tally (now (answers .entry)) (now (certificate .entry)) (now (answers .exit)) (now (certificate .exit)) r ⌝ }
+    requires { ⌜ Asked (now numbers) (now ends) (now weights) (now firsts) chosen threshold (now answers) (now certificate) answered written tally ⌝ }
+    ensures { λ r. ⌜ ComesTo (now (numbers .entry)) (now (ends .entry)) (now (weights .entry)) chosen threshold answered written tally (now (answers .entry)) (now (certificate .entry)) (now (answers .exit)) (now (certificate .exit)) r ⌝ }
 {
     let mut positions = [0u32; limits::MOST_RUNS];
     let mut keys = [0u64; limits::MOST_RUNS];
@@ -66,6 +70,7 @@ pub fn question_walk(
     whole_walk(
         numbers,
         ends,
+        weights,
         chosen,
         threshold,
         &mut positions[0..k],

@@ -167,6 +167,10 @@ named-weight ws m rs l k h =
 
 -- ---- where the row has no weights
 
+pub no-weights : (s : List ℕ) → length s ≡ 0 → s ≡ []
+no-weights [] e = refl
+no-weights (x ∷ s) e = absurd (omega arith)
+
 -- A mask names as many runs as it has ones, and each weighs 1.
 none-given : (m a n : ℕ) → m < 2 ^ (a + n) → weightFrom [] m a n ≡ ones (m / 2 ^ a)
 unfolding weightFrom ones

@@ -19,7 +19,7 @@ use Rattle.walk_advance.proofs.advance.Tie as tie
 
 -- the places before: the arguments, the front of the row, the gap written, the searches
 abbrev start-of : tie.After-front → tie.Start
-start-of f = f .before .before .before .before .before .before .before .before .before
+start-of f = f .before .before .before .before .before .before .before .before .before .before
 
 abbrev gap-of : tie.After-x → tie.After-gap-before
 gap-of x = x .before .before .before .before
@@ -38,7 +38,7 @@ mul-front c = search needs
 
 front-requires : tie.Need-front-requires
 front-requires c κs =
-    let s = c .before .before .before .before .before .before .before .before in
+    let s = c .before .before .before .before .before .before .before .before .before in
     let a = s .args in
     front-asks (a .numbers .now) (a .ends .now) (a .positions .now) (a .keys .now) (a .w .start) (s .pre .0 .few) (s .pre .0 .holds)
 
@@ -54,7 +54,7 @@ sub-gap-before c =
     let f = c .before in
     let s = start-of f in
     let a = s .args in
-    let l = named-small (a .numbers .now) (a .ends .now) (a .positions .now) (a .keys .now) (a .answers .now) (a .certificate .now) (a .chosen) (a .threshold) (a .v) (a .w)
+    let l = named-small (a .numbers .now) (a .ends .now) (a .weights .now) (a .positions .now) (a .keys .now) (a .answers .now) (a .certificate .now) (a .chosen) (a .threshold) (a .v) (a .w)
     (f .front .result .count) (f .front .result .named) (s .pre .0) (s .pre .1) (s .pre .2) (s .pre .3) (counts f) (f .front .ensures .1) in
     omega arith
 
@@ -79,7 +79,7 @@ returns c =
     let f = g .before .before in
     let s = start-of f in
     let a = s .args in
-    gap-stops (a .numbers .now) (a .ends .now) (a .positions .now) (a .keys .now) (a .answers .now) (a .certificate .now) (a .chosen) (a .threshold) (a .v) (a .w)
+    gap-stops (a .numbers .now) (a .ends .now) (a .weights .now) (a .positions .now) (a .keys .now) (a .answers .now) (a .certificate .now) (a .chosen) (a .threshold) (a .v) (a .w)
     (f .front .result .count) (f .front .result .named) (s .pre .0) (s .pre .1) (s .pre .2) (s .pre .3) (counts f) (f .front .ensures .1) (g .gap-before .last .0)
     (subst (λ y. Writes (gapEvents (a .w .floor) (a .v) (a .chosen - f .front .result .named)) (a .w) (a .certificate .now) (g .gap-before .last .0) y)
     (c .enum-told .given .1) (g .gap-before .ensures))
@@ -90,7 +90,7 @@ ready : (f : tie.After-front)
 ready f =
     let s = start-of f in
     let a = s .args in
-    search-ready (a .numbers .now) (a .ends .now) (a .positions .now) (a .keys .now) (a .answers .now) (a .certificate .now) (a .chosen) (a .threshold) (a .v) (a .w)
+    search-ready (a .numbers .now) (a .ends .now) (a .weights .now) (a .positions .now) (a .keys .now) (a .answers .now) (a .certificate .now) (a .chosen) (a .threshold) (a .v) (a .w)
     (f .front .result .count) (f .front .result .named) (s .pre .0) (s .pre .1) (s .pre .2) (s .pre .3) (counts f) (f .front .ensures .1)
 
 add-search-runs : tie.Need-add-search-runs
@@ -163,7 +163,7 @@ settle-requires c κs =
     let f = front-of x in
     let s = start-of f in
     let a = s .args in
-    stands-there (a .numbers .now) (a .ends .now) (a .positions .now) (a .keys .now) (a .answers .now) (a .certificate .now) (a .chosen) (a .threshold) (a .v) (a .w)
+    stands-there (a .numbers .now) (a .ends .now) (a .weights .now) (a .positions .now) (a .keys .now) (a .answers .now) (a .certificate .now) (a .chosen) (a .threshold) (a .v) (a .w)
     (f .front .result .count) (f .front .result .named) (s .pre .0) (s .pre .1) (s .pre .2) (s .pre .3) (counts f) (f .front .ensures .1)
     (x .x .given .0 .0) (g .gap-before .last .0) (gap-on x) (u .search-runs .last .1 .1 .0) (u .search-runs .last .1 .1 .1 .0)
     (m .start .given .0 .0) (m .start .given .0 .1 .0) (searched-on m)
@@ -186,7 +186,7 @@ returns-2 c =
     let f = front-of x in
     let s = start-of f in
     let a = s .args in
-    searches-stop (a .numbers .now) (a .ends .now) (a .positions .now) (a .keys .now) (a .answers .now) (a .certificate .now) (a .chosen) (a .threshold) (a .v) (a .w)
+    searches-stop (a .numbers .now) (a .ends .now) (a .weights .now) (a .positions .now) (a .keys .now) (a .answers .now) (a .certificate .now) (a .chosen) (a .threshold) (a .v) (a .w)
     (f .front .result .count) (f .front .result .named) (s .pre .0) (s .pre .1) (s .pre .2) (s .pre .3) (counts f) (f .front .ensures .1)
     (x .x .given .0 .0) (g .gap-before .last .0) (gap-on x) (u .search-runs .last .1 .1 .0) (u .search-runs .last .1 .1 .1 .0) (p .tally .given .0 .0)
     (spent-on p)
@@ -205,7 +205,7 @@ same-length-9 c =
     let e = c .before .before .before .before .before .before .before .before in
     let m = e .before .before .before .before .before .before in
     let g = gap-of (written-of (m .before .before .before .before .before .before)) in
-    e .settle .kept .1 .1 .1 .1 .1 .1 .0 ∙ g .gap-before .kept .0
+    e .settle .kept .1 .1 .1 .1 .1 .1 .1 .0 ∙ g .gap-before .kept .0
 
 returns-3 : tie.Need-returns-3
 returns-3 c =
@@ -217,11 +217,11 @@ returns-3 c =
     let f = front-of x in
     let s = start-of f in
     let a = s .args in
-    then-settles (a .numbers .now) (a .ends .now) (a .positions .now) (a .keys .now) (a .answers .now) (a .certificate .now) (a .chosen) (a .threshold) (a .v) (a .w)
+    then-settles (a .numbers .now) (a .ends .now) (a .weights .now) (a .positions .now) (a .keys .now) (a .answers .now) (a .certificate .now) (a .chosen) (a .threshold) (a .v) (a .w)
     (f .front .result .count) (f .front .result .named) (s .pre .0) (s .pre .1) (s .pre .2) (s .pre .3) (counts f) (f .front .ensures .1)
     (x .x .given .0 .0) (g .gap-before .last .0) (gap-on x) (u .search-runs .last .1 .1 .0) (u .search-runs .last .1 .1 .1 .0)
     (m .start .given .0 .0) (m .start .given .0 .1 .0) (searched-on m)
-    (e .settle .last .1 .1 .1 .0) (e .settle .last .1 .1 .1 .1 .0) (e .settle .last .1 .1 .1 .1 .1 .0) (e .settle .last .1 .1 .1 .1 .1 .1 .0)
+    (e .settle .last .1 .1 .1 .1 .0) (e .settle .last .1 .1 .1 .1 .1 .0) (e .settle .last .1 .1 .1 .1 .1 .1 .0) (e .settle .last .1 .1 .1 .1 .1 .1 .1 .0)
     (e .settle .result) (e .settle .ensures)
 
 pub advance-spec : {M : Type 1} → statement M

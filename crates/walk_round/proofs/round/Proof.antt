@@ -1,20 +1,44 @@
--- `round` ends with the last gap where too few runs have a head, and goes on from the t-th smallest head otherwise. Assumes nothing.
-use mathlib.Core.Path.{sym, subst}
+-- `round` ends with the last gap where the runs with a head weigh too little, and goes on from the head up to which they weigh enough otherwise. Assumes nothing.
+use lib.ListN.{drop}
+use mathlib.Core.Logic.{_≢_}
+use mathlib.Core.Path.{_≡_, sym, _∙_, subst}
 use native.Mathlib.Omega.{arith}
+use Rattle.model.specs.Runs.{pastBin}
 use Rattle.walk_advance.specs.Advances.{Advances}
-use Rattle.walk_round.proofs.Ending.{last-ready, ends-there, head-fits, advances}
+use Rattle.walk_keys.specs.Row.{reachedHead}
+use Rattle.walk_round.proofs.Ending.{reach-ready, last-ready, ends-there, head-fits, advances}
 use borrow.Author.Needs.{needs}
 use Rattle.walk_round.proofs.round.Statement.{statement}
 use Rattle.walk_round.proofs.round.Tie as tie
 
-sub-if1 : tie.Need-sub-if1
-sub-if1 c = search needs
+-- the arguments
+abbrev start-of : tie.After-reached-head → tie.Start
+start-of h = h .before .before .before .before .before .before .before .before .before
+
+reached-head-requires : tie.Need-reached-head-requires
+reached-head-requires c κs =
+    let s = c .before .before .before .before .before .before .before .before in
+    let a = s .args in
+    reach-ready (a .numbers .now) (a .ends .now) (a .weights .now) (a .positions .now) (a .keys .now) (a .answers .now) (a .certificate .now) (a .chosen) (a .threshold) (a .w)
+    (s .pre .0) (s .pre .1) (s .pre .2)
+
+-- whether a head was reached
+past : (h : tie.After-reached-head) → h .reached-head .result ≡ 4294967296
+    → (let a = start-of h .args in reachedHead (a .weights .now) (a .threshold) (drop (a .w .start) (a .keys .now)) ≡ pastBin)
+unfolding pastBin
+past h e = sym (h .reached-head .ensures) ∙ e
+
+not-past : (h : tie.After-reached-head) → h .reached-head .result ≢ 4294967296
+    → (let a = start-of h .args in reachedHead (a .weights .now) (a .threshold) (drop (a .w .start) (a .keys .now)) ≢ pastBin)
+unfolding pastBin
+not-past h n e = n (h .reached-head .ensures ∙ e)
 
 last-gap-requires : tie.Need-last-gap-requires
 last-gap-requires c κs =
-    let s = c .before .before .before .before .before .before .before .before .before in
+    let s = start-of (c .before .before .before) in
     let a = s .args in
-    last-ready (a .numbers .now) (a .ends .now) (a .positions .now) (a .keys .now) (a .answers .now) (a .certificate .now) (a .chosen) (a .threshold) (a .w) (s .pre .0) (s .pre .1) (s .pre .2)
+    last-ready (a .numbers .now) (a .ends .now) (a .weights .now) (a .positions .now) (a .keys .now) (a .answers .now) (a .certificate .now) (a .chosen) (a .threshold) (a .w)
+    (s .pre .0) (s .pre .1) (s .pre .2)
 
 same-length : tie.Need-same-length
 same-length c = search needs
@@ -24,32 +48,35 @@ same-length-2 c = search needs
 
 returns : tie.Need-returns
 returns c =
-    let s = c .before .before .before .before .before .before .before .before .before .before .before .before in
+    let h = c .before .before .before .before .before .before in
+    let s = start-of h in
     let a = s .args in
     let g = c .before .before in
-    ends-there (a .numbers .now) (a .ends .now) (a .positions .now) (a .keys .now) (a .answers .now) (a .certificate .now) (a .chosen) (a .threshold) (a .w) (s .pre .0) (s .pre .1) (s .pre .2)
-    (g .last-gap .last .1 .1 .0) (g .last-gap .result) (c .before .before .before .before .before .if1 .taken) (g .last-gap .ensures)
-
-nth-head-requires : tie.Need-nth-head-requires
-nth-head-requires c κs = search needs
+    ends-there (a .numbers .now) (a .ends .now) (a .weights .now) (a .positions .now) (a .keys .now) (a .answers .now) (a .certificate .now) (a .chosen) (a .threshold) (a .w)
+    (s .pre .0) (s .pre .1) (s .pre .2)
+    (g .last-gap .last .1 .1 .0) (g .last-gap .result) (past h (c .before .before .before .before .before .if1 .taken)) (g .last-gap .ensures)
 
 cast-advance : tie.Need-cast-advance
 cast-advance c =
-    let s = c .before .before .before .before .before .before .before .before .before .before .before .before .before in
+    let h = c .before .before .before .before .before in
+    let s = start-of h in
     let a = s .args in
-    let b = head-fits (a .numbers .now) (a .ends .now) (a .positions .now) (a .keys .now) (a .answers .now) (a .certificate .now) (a .chosen) (a .threshold) (a .w) (s .pre .0) (s .pre .1) (s .pre .2) (c .before .before .before .before .before .before .if1 .left) in
-    let e = c .before .before .before .before .nth-head .ensures in
-    omega arith
+    let b = head-fits (a .numbers .now) (a .ends .now) (a .weights .now) (a .positions .now) (a .keys .now) (a .answers .now) (a .certificate .now) (a .chosen) (a .threshold) (a .w)
+    (s .pre .0) (s .pre .1) (s .pre .2) (not-past h (c .before .before .before .before .if1 .left)) in
+    let e = h .reached-head .ensures in
+    record { fits = omega arith }
 
 advance-requires : tie.Need-advance-requires
 advance-requires c κs =
-    let s = c .before .before .before .before .before .before .before .before .before .before .before .before .before in
+    let h = c .before .before .before .before .before in
+    let s = start-of h in
     let a = s .args in (
       s .pre .0,
       s .pre .1,
       s .pre .2,
-      subst (λ v. Advances (a .chosen) (a .numbers .now) (a .ends .now) (a .positions .now) (a .threshold) v) (sym (c .before .before .before .before .nth-head .ensures))
-          (advances (a .numbers .now) (a .ends .now) (a .positions .now) (a .keys .now) (a .answers .now) (a .certificate .now) (a .chosen) (a .threshold) (a .w) (s .pre .0) (s .pre .1) (s .pre .2) (c .before .before .before .before .before .before .if1 .left)),
+      subst (λ v. Advances (a .chosen) (a .numbers .now) (a .ends .now) (a .weights .now) (a .positions .now) (a .threshold) v) (sym (h .reached-head .ensures))
+          (advances (a .numbers .now) (a .ends .now) (a .weights .now) (a .positions .now) (a .keys .now) (a .answers .now) (a .certificate .now) (a .chosen) (a .threshold) (a .w)
+    (s .pre .0) (s .pre .1) (s .pre .2) (not-past h (c .before .before .before .before .if1 .left))),
     )
 
 same-length-3 : tie.Need-same-length-3
@@ -71,12 +98,11 @@ pub round-spec : {M : Type 1} → statement M
 round-spec =
     tie.close
     (tie.spec
-    sub-if1
+    reached-head-requires
     last-gap-requires
     same-length
     same-length-2
     returns
-    nth-head-requires
     cast-advance
     advance-requires
     same-length-3

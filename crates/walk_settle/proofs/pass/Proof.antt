@@ -11,17 +11,17 @@ use Rattle.walk_settle.proofs.pass.Tie as tie
 returns : tie.Need-returns
 unfolding lastBin
 returns c =
-    let s = c .before .before .before .before .before .before in
+    let s = c .before .before .before .before .before .before .before in
     let a = s .args in
-    passed-last (a .numbers .now) (a .ends .now) (a .positions .now) (a .keys .now) (a .threshold) (a .w) (a .number) (a .named) (s .pre .0) (s .pre .1) (c .if1 .taken) (a .positions .now) (a .keys .now)
+    passed-last (a .numbers .now) (a .ends .now) (a .weights .now) (a .positions .now) (a .keys .now) (a .threshold) (a .w) (a .number) (a .named) (s .pre .0) (s .pre .1) (c .if1 .taken) (a .positions .now) (a .keys .now)
 
 ready : (c : tie.After-struct-known2)
-    → (let a = c .before .before .before .before .before .before .before .before .before .args in
+    → (let a = c .before .before .before .before .before .before .before .before .before .before .args in
     StepReady (a .numbers .now) (a .ends .now) (a .positions .now) (a .keys .now) (a .w .start + a .number) (a .named))
 ready c =
-    let s = c .before .before .before .before .before .before .before .before .before in
+    let s = c .before .before .before .before .before .before .before .before .before .before in
     let a = s .args in
-    step-ready (a .numbers .now) (a .ends .now) (a .positions .now) (a .keys .now) (a .threshold) (a .w) (a .number) (a .named) (s .pre .0) (s .pre .1)
+    step-ready (a .numbers .now) (a .ends .now) (a .weights .now) (a .positions .now) (a .keys .now) (a .threshold) (a .w) (a .number) (a .named) (s .pre .0) (s .pre .1)
 
 add-step-runs : tie.Need-add-step-runs
 add-step-runs c =
@@ -33,8 +33,8 @@ add-step-runs c =
 step-runs-requires : tie.Need-step-runs-requires
 step-runs-requires c κs = ready c
 
-add-t16 : tie.Need-add-t16
-add-t16 c = search needs
+add-t17 : tie.Need-add-t17
+add-t17 c = search needs
 
 same-length : tie.Need-same-length
 same-length c = search needs
@@ -47,12 +47,12 @@ unfolding lastBin
 returns-2 c =
     let u = c .before .before .before .before .before in
     let e = u .before .before .before .before in
-    let s = e .before .before .before .before .before .before in
+    let s = e .before .before .before .before .before .before .before in
     let a = s .args in
-    passed-on (a .numbers .now) (a .ends .now) (a .positions .now) (a .keys .now) (a .threshold) (a .w) (a .number) (a .named) (s .pre .0) (s .pre .1)
+    passed-on (a .numbers .now) (a .ends .now) (a .weights .now) (a .positions .now) (a .keys .now) (a .threshold) (a .w) (a .number) (a .named) (s .pre .0) (s .pre .1)
     (u .step-runs .last .1 .1 .0) (u .step-runs .last .1 .1 .1 .0) (u .step-runs .result) (e .if1 .left) (u .step-runs .ensures)
 
 pub pass-spec : {M : Type 1} → statement M
 pass-spec =
     tie.close
-    (tie.spec returns add-step-runs step-runs-requires add-t16 same-length same-length-2 returns-2)
+    (tie.spec returns add-step-runs step-runs-requires add-t17 same-length same-length-2 returns-2)

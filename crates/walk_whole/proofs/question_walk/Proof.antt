@@ -2,7 +2,6 @@
 use Prim.Native.Nat.{_≤_}
 use lib.ListN.{length}
 use Rattle.model.specs.Runs.{mostRuns}
-use Rattle.model.proofs.FirstChecks.{chosen-passed}
 use borrow.Author.Needs.{needs}
 use Rattle.walk_whole.proofs.question_walk.Statement.{statement}
 use Rattle.walk_whole.proofs.question_walk.Tie as tie
@@ -13,14 +12,11 @@ sub-whole-walk c = search needs
 part-positions-start : tie.Need-part-positions-start
 part-positions-start c = search needs
 
-abbrev start-of : tie.After-shared-slice-known3 → tie.Start
-start-of c = c .before .before .before .before .before
+abbrev start-of : tie.After-shared-slice-known4 → tie.Start
+start-of c = c .before .before .before .before .before .before
 
-few : (c : tie.After-shared-slice-known3) → length (start-of c .args .ends .now) ≤ mostRuns
-few c =
-    let s = start-of c in
-    let a = s .args in
-    chosen-passed (a .numbers .now) (a .ends .now) (a .chosen) (a .threshold) (s .pre .checked) .few-runs
+few : (c : tie.After-shared-slice-known4) → length (start-of c .args .ends .now) ≤ mostRuns
+few c = start-of c .pre .few
 
 part-positions-end : tie.Need-part-positions-end
 part-positions-end c = few c

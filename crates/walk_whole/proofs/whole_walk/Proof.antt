@@ -11,13 +11,13 @@ use Rattle.walk_whole.proofs.whole_walk.Tie as tie
 
 -- what is known of the numbers, and the start
 abbrev known-of : tie.After-begin-arg2 → tie.After-shared-slice-known
-known-of c = c .before .before .before .before .before .before .before .before
+known-of c = c .before .before .before .before .before .before .before .before .before
 
 begin-requires : tie.Need-begin-requires
 begin-requires c κs =
     let s = known-of c .before in
     let a = s .args in
-    begin-ready (a .numbers .now) (a .ends .now) (a .firsts .now) (a .chosen) (a .threshold) (a .positions .now) (a .keys .now) (a .answers .now) (a .certificate .now) (a .answered) (a .written) (a .tally) (s .pre)
+    begin-ready (a .numbers .now) (a .ends .now) (a .weights .now) (a .firsts .now) (a .chosen) (a .threshold) (a .positions .now) (a .keys .now) (a .answers .now) (a .certificate .now) (a .answered) (a .written) (a .tally) (s .pre)
 
 fits-bins : (c : tie.After-shared-slice-known) → Fits pastBin (c .before .args .numbers .now)
 fits-bins c = let e = past-is in fits pastBin (c .before .args .numbers .now) (λ i. omega (arith, c .shared-slice-known .given i))
@@ -28,7 +28,7 @@ all-rounds-requires c κs =
     let k = known-of (g .before) in
     let s = k .before in
     let a = s .args in
-    stands-first (a .numbers .now) (a .ends .now) (a .firsts .now) (a .chosen) (a .threshold) (a .positions .now) (a .keys .now) (a .answers .now) (a .certificate .now) (a .answered) (a .written) (a .tally) (s .pre)
+    stands-first (a .numbers .now) (a .ends .now) (a .weights .now) (a .firsts .now) (a .chosen) (a .threshold) (a .positions .now) (a .keys .now) (a .answers .now) (a .certificate .now) (a .answered) (a .written) (a .tally) (s .pre)
     (fits-bins k) (g .begin .last .1 .1 .1 .1 .0) (g .begin .last .1 .1 .1 .1 .1 .0) (g .begin .result) (g .begin .ensures)
 
 same-length : tie.Need-same-length
@@ -50,9 +50,9 @@ returns c =
     let k = known-of (g .before) in
     let s = k .before in
     let a = s .args in
-    comes-first (a .numbers .now) (a .ends .now) (a .firsts .now) (a .chosen) (a .threshold) (a .positions .now) (a .keys .now) (a .answers .now) (a .certificate .now) (a .answered) (a .written) (a .tally) (s .pre)
+    comes-first (a .numbers .now) (a .ends .now) (a .weights .now) (a .firsts .now) (a .chosen) (a .threshold) (a .positions .now) (a .keys .now) (a .answers .now) (a .certificate .now) (a .answered) (a .written) (a .tally) (s .pre)
     (fits-bins k) (g .begin .last .1 .1 .1 .1 .0) (g .begin .last .1 .1 .1 .1 .1 .0) (g .begin .result) (g .begin .ensures)
-    (u .all-rounds .last .1 .1 .1 .1 .1 .1 .0) (u .all-rounds .last .1 .1 .1 .1 .1 .1 .1 .0) (u .all-rounds .result) (u .all-rounds .ensures)
+    (u .all-rounds .last .1 .1 .1 .1 .1 .1 .1 .0) (u .all-rounds .last .1 .1 .1 .1 .1 .1 .1 .1 .0) (u .all-rounds .result) (u .all-rounds .ensures)
 
 pub whole-walk-spec : {M : Type 1} → statement M
 whole-walk-spec =

@@ -1,18 +1,11 @@
 -- `weight_of` counts the runs that the mask names where the row has no weights, and adds their weights otherwise. Assumes nothing.
 use borrow.Author.Needs.{needs}
-use lib.ListN.{length}
-use mathlib.Core.List.{List, [], _∷_}
-use mathlib.Core.Path.{_≡_, refl, sym, ap, _∙_}
+use mathlib.Core.Path.{sym, ap, _∙_}
 use native.Mathlib.Omega.{arith}
-use Prim.Native.Nat.{ℕ, _<_}
 use Rattle.weights.specs.Named.{namedWeight}
-use Rattle.weights.proofs.Named.{named-none}
+use Rattle.weights.proofs.Named.{no-weights, named-none}
 use Rattle.weights.proofs.weight_of.Statement.{statement}
 use Rattle.weights.proofs.weight_of.Tie as tie
-
-empty : (s : List ℕ) → length s ≡ 0 → s ≡ []
-empty [] e = refl
-empty (x ∷ s) e = absurd (omega arith)
 
 ones-of-requires : tie.Need-ones-of-requires
 ones-of-requires c κs = search needs
@@ -24,7 +17,7 @@ returns : tie.Need-returns
 returns c =
     let i = c .before .before in
     let s = i .before .before in
-    let n = empty (s .args .weights .now) (omega (arith, i .if1 .taken)) in
+    let n = no-weights (s .args .weights .now) (omega (arith, i .if1 .taken)) in
     c .usize-of-u32 .ensures
     ∙ (c .before .ones-of .ensures ∙ (sym (named-none (s .args .mask) (s .fits .mask .fits)) ∙ ap (λ w. namedWeight w (s .args .mask)) (sym n)))
 
