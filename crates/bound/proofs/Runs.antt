@@ -70,7 +70,7 @@ unfolding sumFrom bound total runsFrom names boundIn
 sum-from m d i a numbers [] = let e = ap (bound d) (chosen-nil m) in omega arith
 sum-from m d i a numbers (e ∷ ends) =
     let s = sum-from m d (suc i) e numbers ends in
-    let r : Run = record { label = i; bins = from firstBin (slice numbers a e) } in
+    let r : Run = record { label = i; weight = 1; bins = from firstBin (slice numbers a e) } in
     let c = bound-cons m d r (runsFrom (suc i) e numbers ends) in
     let k = mul-le-mul-left (one (named m i)) (bound-mono d (bins-few a e numbers)) in
     omega arith
