@@ -260,7 +260,8 @@ pub fn weighted_checks(numbers: &[u32], ends: &[u32], weights: &[u32], wanted: u
         return row;
     }
     let w = arith::usize_of_u32(wanted);
-    let enough = threshold_check(weights::sum(weights), w, w);
+    let total = weights::sum(weights);
+    let enough = threshold_check(total, w, w);
     let met = first_of(row, enough);
     let Checked::Passed = met else {
         return met;
