@@ -19,7 +19,7 @@ abbrev pub binsOf : List ℕ → List ℕ → ℕ → List ℕ
 binsOf numbers ends i = from firstBin (lentOf numbers ends i)
 
 abbrev pub runAt : List ℕ → List ℕ → ℕ → Run
-runAt numbers ends i = record { label = i; bins = binsOf numbers ends i }
+runAt numbers ends i = record { label = i; weight = 1; bins = binsOf numbers ends i }
 
 -- the first bin of run i from v on, or the number after the last bin
 abbrev pub headIn : List ℕ → List ℕ → ℕ → ℕ → ℕ

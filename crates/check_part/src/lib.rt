@@ -1,24 +1,26 @@
-// One part of a certificate checked at the next uncovered bin, by the runs that a mask chooses (docs/SPECIFICATION.md, 'The refusals').
+// One part of a certificate checked at the next uncovered bin, by the runs that a mask chooses (docs/SPECIFICATION.md, 'The refusals' and 'Weights'). A row of
+// weights that is empty stands for runs that weigh 1 each.
 ghost use mathlib.Core.Path.{_≡_};
 ghost use mathlib.Core.Bool.{not, _||_};
 ghost use Prim.Native.Nat.{_^_, _<_};
 ghost use lib.Bits.{bitAnd};
-ghost use lib.Count.{ones};
 ghost use lib.Dec.{eqb, ltb};
 ghost use lib.ListN.{length};
 ghost use Rattle.model.specs.Certificate.{lastOf};
 ghost use Rattle.field_read.specs.Reading.{partOf};
+ghost use Rattle.weights.specs.Named.{namedWeight, Weighs};
 ghost use Rattle.check_cursor.specs.Cursors.{Cursors};
 ghost use Rattle.check_scan.specs.Scan.{claim};
 ghost use Rattle.check_part.specs.Tested.{Choice, Tested, PartChecked};
 use field_read::Part;
 
-// Whether the mask names a run that is not chosen, or fewer than `few`.
-fn misnames(mask: u64, chosen: u64, few: usize) -> bool
-    ensures { λ r. ⌜ r ≡ (not (eqb (bitAnd mask chosen) mask) || ltb (ones mask) few) ⌝ }
+// Whether the mask names a run that is not chosen, or runs that weigh less than `few` together.
+fn misnames(mask: u64, chosen: u64, weights: &[u32], few: usize) -> bool
+    requires { ⌜ Weighs chosen (now weights) ⌝ }
+    ensures { λ r. ⌜ r ≡ (not (eqb (bitAnd mask chosen) mask) || ltb (namedWeight (now (weights .entry)) mask) few) ⌝ }
 {
     if mask::names_only(mask, chosen) {
-        return arith::usize_of_u32(mask::ones_of(mask)) < few;
+        return weights::weight_of(mask, weights) < few;
     }
     true
 }
@@ -27,6 +29,7 @@ fn misnames(mask: u64, chosen: u64, few: usize) -> bool
 fn tested(
     numbers: &[u32],
     ends: &[u32],
+    weights: &[u32],
     chosen: u64,
     cursors: &mut [u64],
     bin: u64,
@@ -36,8 +39,8 @@ fn tested(
     held: bool,
     few: usize,
 ) -> u8
-    requires { ⌜ Cursors (now numbers) (now ends) (now cursors) bin × (lastOf (claim held first last mask) ≡ last) × (chosen < 2 ^ length (now ends)) ⌝ }
-    ensures { λ r. ⌜ Tested (now (numbers .entry)) (now (ends .entry)) chosen bin held first last mask few (now (cursors .exit)) r ⌝ }
+    requires { ⌜ Cursors (now numbers) (now ends) (now cursors) bin × (lastOf (claim held first last mask) ≡ last) × (chosen < 2 ^ length (now ends)) × Weighs chosen (now weights) ⌝ }
+    ensures { λ r. ⌜ Tested (now (numbers .entry)) (now (ends .entry)) (now (weights .entry)) chosen bin held first last mask few (now (cursors .exit)) r ⌝ }
 {
     if first as u64 != bin {
         return 9;
@@ -45,7 +48,7 @@ fn tested(
     if last < first {
         return 9;
     }
-    if misnames(mask, chosen, few) {
+    if misnames(mask, chosen, weights, few) {
         return 10;
     }
     if check_scan::contradicted(numbers, ends, cursors, first, last, mask, held) {
@@ -54,10 +57,12 @@ fn tested(
     0
 }
 
-// The number of the refusal of a part at the next uncovered bin, or 0. An answer must name `threshold` of the chosen runs, a gap `few`.
+// The number of the refusal of a part at the next uncovered bin, or 0. The chosen runs that an answer names must weigh `threshold`, those that a gap names `few`:
+// of k runs that weigh 1 each, k − threshold + 1.
 pub fn check_part(
     numbers: &[u32],
     ends: &[u32],
+    weights: &[u32],
     chosen: u64,
     threshold: usize,
     few: usize,
@@ -65,13 +70,14 @@ pub fn check_part(
     bin: u64,
     part: Part,
 ) -> u8
-    requires { ⌜ Cursors (now numbers) (now ends) (now cursors) bin × Choice (now ends) chosen threshold few ⌝ }
-    ensures { λ r. ⌜ PartChecked (now (numbers .entry)) (now (ends .entry)) chosen threshold bin (partOf part) (now (cursors .exit)) r ⌝ }
+    requires { ⌜ Cursors (now numbers) (now ends) (now cursors) bin × Choice (now ends) (now weights) chosen threshold few ⌝ }
+    ensures { λ r. ⌜ PartChecked (now (numbers .entry)) (now (ends .entry)) (now (weights .entry)) chosen threshold bin (partOf part) (now (cursors .exit)) r ⌝ }
 {
     match part {
         Part::Answer { value, mask } => tested(
             numbers,
             ends,
+            weights,
             chosen,
             cursors,
             bin,
@@ -84,6 +90,7 @@ pub fn check_part(
         Part::Gap { first, last, mask } => tested(
             numbers,
             ends,
+            weights,
             chosen,
             cursors,
             bin,

@@ -74,22 +74,22 @@ unnamed false f l m r n = rw n
 pub bit-none : (i : ℕ) → bit 0 i ≡ 0
 bit-none i = let p = pow-pos i in bit-of 0 i ∙ rw (div-eq-of-lt p)
 
-named-one : (m i : ℕ) (s : List ℕ) → bit m i ≡ 1 → names m (record { label = i; bins = s }) ≡ true
+named-one : (m : ℕ) (r : Run) → bit m (r .label) ≡ 1 → names m r ≡ true
 unfolding names
-named-one m i s e = eq-eqb (bit m i) 1 e
+named-one m r e = eq-eqb (bit m (r .label)) 1 e
 
-named-none : (m i : ℕ) (s : List ℕ) → bit m i ≢ 1 → names m (record { label = i; bins = s }) ≡ false
+named-none : (m : ℕ) (r : Run) → bit m (r .label) ≢ 1 → names m r ≡ false
 unfolding names
-named-none m i s n = ne-eqb (bit m i) 1 n
+named-none m r n = ne-eqb (bit m (r .label)) 1 n
 
 -- a named run whose first number from f on is x
 pub named-says : (numbers ends : List ℕ) (held : Bool) (f l m i x : ℕ) → Rise firstBin (binsOf numbers ends i) → f < pastBin → l < pastBin → bit m i ≡ 1
     → headIn numbers ends i f ≡ x → clash held f l x ≡ contradicts (claim held f l m) (runAt numbers ends i)
 named-says numbers ends held f l m i x r a b n e =
-    ap (clash held f l) (sym e) ∙ named-clash held f l m (runAt numbers ends i) r a b (named-one m i (binsOf numbers ends i) n)
+    ap (clash held f l) (sym e) ∙ named-clash held f l m (runAt numbers ends i) r a b (named-one m (runAt numbers ends i) n)
 
 pub unnamed-agrees : (numbers ends : List ℕ) (held : Bool) (f l m i : ℕ) → bit m i ≢ 1 → contradicts (claim held f l m) (runAt numbers ends i) ≡ false
-unnamed-agrees numbers ends held f l m i n = sym (unnamed held f l m (runAt numbers ends i) (named-none m i (binsOf numbers ends i) n))
+unnamed-agrees numbers ends held f l m i n = sym (unnamed held f l m (runAt numbers ends i) (named-none m (runAt numbers ends i) n))
 
 -- a run with no number up to l agrees with a gap up to l
 pub clash-above : (held : Bool) (f l x : ℕ) → held ≡ false → l < x → clash held f l x ≡ false

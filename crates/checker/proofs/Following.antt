@@ -15,9 +15,9 @@ use Rattle.model.proofs.Checking.{check-read}
 use Rattle.model.proofs.Encoding.{size-pos}
 use Rattle.model.specs.Certificate.{Part, answer, gap, lastOf, sizeOf, unreadable, read, readField}
 use Rattle.model.specs.Refusals.{refusal, Verdict, valid, invalid, checkPart, counted, atEnd, checkFrom}
-use Rattle.model.specs.Runs.{Run, firstBin, pastBin, runs, chosen}
+use Rattle.model.specs.Runs.{Run, firstBin, pastBin}
 use Rattle.check_cursor.specs.Cursors.{Cursors}
-use Rattle.check_part.specs.Tested.{numbered, PartChecked}
+use Rattle.check_part.specs.Tested.{chosenRuns, numbered, PartChecked}
 use Rattle.checker.specs.Counts.{answerCount}
 
 -- ---- one field
@@ -68,47 +68,47 @@ plus-counted a n (gap f l m) (invalid x y b k) = refl
 
 -- ---- the loop
 
-pub record Along (numbers ends : List ℕ) (m t : ℕ) (certificate cursors : List ℕ) (bin at answers parts : ℕ) : Type 0 where
+pub record Along (numbers ends weights : List ℕ) (m t : ℕ) (certificate cursors : List ℕ) (bin at answers parts : ℕ) : Type 0 where
   pub ready : Cursors numbers ends cursors bin
-  pub same : checkFrom (length certificate) (chosen m (runs numbers ends)) t firstBin 0 certificate
-      ≡ plus answers parts (checkFrom (length certificate - parts) (chosen m (runs numbers ends)) t bin at (drop at certificate))
+  pub same : checkFrom (length certificate) (chosenRuns numbers ends weights m) t firstBin 0 certificate
+      ≡ plus answers parts (checkFrom (length certificate - parts) (chosenRuns numbers ends weights m) t bin at (drop at certificate))
   pub few : answers ≤ parts
   pub slow : parts ≤ at
 
-pub along-start : (numbers ends : List ℕ) (m t : ℕ) (certificate cursors : List ℕ) → Cursors numbers ends cursors firstBin
-    → Along numbers ends m t certificate cursors 1 0 0 0
+pub along-start : (numbers ends weights : List ℕ) (m t : ℕ) (certificate cursors : List ℕ) → Cursors numbers ends cursors firstBin
+    → Along numbers ends weights m t certificate cursors 1 0 0 0
 unfolding firstBin
-along-start numbers ends m t certificate cursors c =
+along-start numbers ends weights m t certificate cursors c =
     let z : length certificate - 0 ≡ length certificate = omega arith in
     record {
       ready = c;
       same =
-          sym (plus-none (checkFrom (length certificate) (chosen m (runs numbers ends)) t firstBin 0 certificate))
-          ∙ (λ i. plus 0 0 (checkFrom (sym z i) (chosen m (runs numbers ends)) t firstBin 0 certificate));
+          sym (plus-none (checkFrom (length certificate) (chosenRuns numbers ends weights m) t firstBin 0 certificate))
+          ∙ (λ i. plus 0 0 (checkFrom (sym z i) (chosenRuns numbers ends weights m) t firstBin 0 certificate));
       few = omega arith;
       slow = omega arith;
     }
 
-module _ (numbers ends : List ℕ) (m t : ℕ) (certificate cursors : List ℕ) (bin at answers parts : ℕ)
-    (h : Along numbers ends m t certificate cursors bin at answers parts) where
+module _ (numbers ends weights : List ℕ) (m t : ℕ) (certificate cursors : List ℕ) (bin at answers parts : ℕ)
+    (h : Along numbers ends weights m t certificate cursors bin at answers parts) where
   step : at < length certificate
-      → checkFrom (length certificate) (chosen m (runs numbers ends)) t firstBin 0 certificate
+      → checkFrom (length certificate) (chosenRuns numbers ends weights m) t firstBin 0 certificate
       ≡ plus answers parts
-      (checkFrom (suc (length certificate - (parts + 1))) (chosen m (runs numbers ends)) t bin at (getD certificate at 0 ∷ drop (suc at) certificate))
+      (checkFrom (suc (length certificate - (parts + 1))) (chosenRuns numbers ends weights m) t bin at (getD certificate at 0 ∷ drop (suc at) certificate))
   step l =
       let s = h .slow in
       let z : length certificate - parts ≡ suc (length certificate - (parts + 1)) = omega arith in
       let d = drop-cons certificate at 0 l in
-      h .same ∙ (λ i. plus answers parts (checkFrom (z i) (chosen m (runs numbers ends)) t bin at (d i)))
+      h .same ∙ (λ i. plus answers parts (checkFrom (z i) (chosenRuns numbers ends weights m) t bin at (d i)))
 
   pub along-unreadable : at < length certificate → (x : field.Field) → x ≡ Unreadable → readingOf certificate x ≡ readField (drop at certificate)
-      → invalid 8 at 0 0 ≡ checkFrom (length certificate) (chosen m (runs numbers ends)) t firstBin 0 certificate
+      → invalid 8 at 0 0 ≡ checkFrom (length certificate) (chosenRuns numbers ends weights m) t firstBin 0 certificate
   unfolding readingOf plus
   along-unreadable l x e r =
       let d = drop-cons certificate at 0 l in
       let u : readField (getD certificate at 0 ∷ drop (suc at) certificate) ≡ unreadable 8 =
       ap readField (sym d) ∙ (sym r ∙ ap (readingOf certificate) e) in
-      sym (step l ∙ ap (plus answers parts) (from-unreadable (length certificate - (parts + 1)) (chosen m (runs numbers ends)) t bin at (getD certificate at 0) (drop (suc at) certificate) u))
+      sym (step l ∙ ap (plus answers parts) (from-unreadable (length certificate - (parts + 1)) (chosenRuns numbers ends weights m) t bin at (getD certificate at 0) (drop (suc at) certificate) u))
 
   readable : at < length certificate → (x : field.Field) (q : code.Part) (next : ℕ) → x ≡ Read q next → readingOf certificate x ≡ readField (drop at certificate)
       → readField (getD certificate at 0 ∷ drop (suc at) certificate) ≡ read (partOf q) (drop next certificate)
@@ -121,21 +121,21 @@ module _ (numbers ends : List ℕ) (m t : ℕ) (certificate cursors : List ℕ) 
 
   pub along-refused : at < length certificate → (x : field.Field) (q : code.Part) (next : ℕ) → x ≡ Read q next
       → readingOf certificate x ≡ readField (drop at certificate) → (cursors′ : List ℕ) (number : ℕ)
-      → PartChecked numbers ends m t bin (partOf q) cursors′ number → number ≢ 0
-      → invalid number at 0 0 ≡ checkFrom (length certificate) (chosen m (runs numbers ends)) t firstBin 0 certificate
+      → PartChecked numbers ends weights m t bin (partOf q) cursors′ number → number ≢ 0
+      → invalid number at 0 0 ≡ checkFrom (length certificate) (chosenRuns numbers ends weights m) t firstBin 0 certificate
   unfolding plus numbered
   along-refused l x q next e r cursors′ zero c n = absurd (n refl)
   along-refused l x q next e r cursors′ (suc number) c n =
       sym
       (step l
       ∙ ap (plus answers parts)
-      (from-refused (length certificate - (parts + 1)) (chosen m (runs numbers ends)) t bin at (getD certificate at 0) (suc number) at (drop (suc at) certificate)
+      (from-refused (length certificate - (parts + 1)) (chosenRuns numbers ends weights m) t bin at (getD certificate at 0) (suc number) at (drop (suc at) certificate)
       (drop next certificate) (partOf q) (readable l x q next e r) (c .refused-by at)))
 
   pub along-on : at < length certificate → (x : field.Field) (q : code.Part) (next : ℕ) → x ≡ Read q next
       → readingOf certificate x ≡ readField (drop at certificate) → EndsFrom at x → (cursors′ : List ℕ) (number : ℕ)
-      → PartChecked numbers ends m t bin (partOf q) cursors′ number → number ≡ 0 → (bin′ more : ℕ) → bin′ ≡ suc (lastOf (partOf q))
-      → more ≡ answerCount (partOf q) → Along numbers ends m t certificate cursors′ bin′ next (answers + more) (parts + 1)
+      → PartChecked numbers ends weights m t bin (partOf q) cursors′ number → number ≡ 0 → (bin′ more : ℕ) → bin′ ≡ suc (lastOf (partOf q))
+      → more ≡ answerCount (partOf q) → Along numbers ends weights m t certificate cursors′ bin′ next (answers + more) (parts + 1)
   unfolding numbered
   along-on l x q next e r d cursors′ number c n bin′ more eb em =
       let y = next-is x q next e d in
@@ -148,17 +148,17 @@ module _ (numbers ends : List ℕ) (m t : ℕ) (certificate cursors : List ℕ) 
         same =
             step l
             ∙ (ap (plus answers parts)
-            (check-read (length certificate - (parts + 1)) (chosen m (runs numbers ends)) t bin at (getD certificate at 0) (drop (suc at) certificate)
+            (check-read (length certificate - (parts + 1)) (chosenRuns numbers ends weights m) t bin at (getD certificate at 0) (drop (suc at) certificate)
             (drop next certificate) (partOf q) (readable l x q next e r) (c .refused-by at ∙ ap (λ z. numbered z at) n))
             ∙ (plus-counted answers parts (partOf q) _
             ∙ (λ i.
             plus (answers + sym em i) (parts + 1)
-            (checkFrom (length certificate - (parts + 1)) (chosen m (runs numbers ends)) t (sym eb i) (sym y i) (drop next certificate)))));
+            (checkFrom (length certificate - (parts + 1)) (chosenRuns numbers ends weights m) t (sym eb i) (sym y i) (drop next certificate)))));
         few = omega arith;
         slow = omega arith;
       }
 
-  pub along-valid : length certificate ≤ at → bin ≡ 4294967296 → valid answers parts ≡ checkFrom (length certificate) (chosen m (runs numbers ends)) t firstBin 0 certificate
+  pub along-valid : length certificate ≤ at → bin ≡ 4294967296 → valid answers parts ≡ checkFrom (length certificate) (chosenRuns numbers ends weights m) t firstBin 0 certificate
   unfolding plus atEnd pastBin
   along-valid l e =
       let i : answers + 0 ≡ answers = omega arith in
@@ -166,14 +166,14 @@ module _ (numbers ends : List ℕ) (m t : ℕ) (certificate cursors : List ℕ) 
       let k : atEnd bin at ≡ valid 0 0 = rw (eq-eqb bin 4294967296 e, atEnd) in
       sym
       (h .same
-      ∙ ((λ z. plus answers parts (checkFrom (length certificate - parts) (chosen m (runs numbers ends)) t bin at (drop-of-length-le certificate l z)))
-      ∙ (ap (plus answers parts) (from-end (length certificate - parts) (chosen m (runs numbers ends)) t bin at ∙ k) ∙ ap₂ valid i j)))
+      ∙ ((λ z. plus answers parts (checkFrom (length certificate - parts) (chosenRuns numbers ends weights m) t bin at (drop-of-length-le certificate l z)))
+      ∙ (ap (plus answers parts) (from-end (length certificate - parts) (chosenRuns numbers ends weights m) t bin at ∙ k) ∙ ap₂ valid i j)))
 
-  pub along-uncovered : length certificate ≤ at → bin ≢ 4294967296 → invalid 9 at 0 0 ≡ checkFrom (length certificate) (chosen m (runs numbers ends)) t firstBin 0 certificate
+  pub along-uncovered : length certificate ≤ at → bin ≢ 4294967296 → invalid 9 at 0 0 ≡ checkFrom (length certificate) (chosenRuns numbers ends weights m) t firstBin 0 certificate
   unfolding plus atEnd pastBin
   along-uncovered l n =
       let k : atEnd bin at ≡ invalid 9 at 0 0 = rw (ne-eqb bin 4294967296 n, atEnd) in
       sym
       (h .same
-      ∙ ((λ z. plus answers parts (checkFrom (length certificate - parts) (chosen m (runs numbers ends)) t bin at (drop-of-length-le certificate l z)))
-      ∙ ap (plus answers parts) (from-end (length certificate - parts) (chosen m (runs numbers ends)) t bin at ∙ k)))
+      ∙ ((λ z. plus answers parts (checkFrom (length certificate - parts) (chosenRuns numbers ends weights m) t bin at (drop-of-length-le certificate l z)))
+      ∙ ap (plus answers parts) (from-end (length certificate - parts) (chosenRuns numbers ends weights m) t bin at ∙ k)))

@@ -1,2 +1,3 @@
+pub mod Checkable
 pub mod Counts
 pub mod Verdicts

@@ -1,16 +1,17 @@
-// The checker: whether a certificate's parts cover all bins in order and are true of the runs, of all or of those that a mask chooses
-// (docs/SPECIFICATION.md, 'The refusals').
+// The checker: whether a certificate's parts cover all bins in order and are true of the runs, of all, of those that a mask chooses or of all with weights
+// (docs/SPECIFICATION.md, 'The refusals' and 'Weights'). A row of weights that is empty stands for runs that weigh 1 each.
 ghost use mathlib.Core.Path.{_≡_};
 ghost use Prim.Native.Nat.{suc};
 ghost use lib.ListN.{length};
 ghost use Rattle.model.specs.Certificate.{lastOf};
-ghost use Rattle.model.specs.Refusals.{passed, invalid, chosenChecks, checkFrom, check, checkChosen};
-ghost use Rattle.model.specs.Runs.{firstBin, runs, chosen};
+ghost use Rattle.model.specs.Refusals.{invalid, checkFrom, check, checkChosen, checkWeighted};
+ghost use Rattle.model.specs.Runs.{firstBin};
 ghost use Rattle.field_read.specs.Reading.{partOf};
 ghost use Rattle.check_cursor.specs.Cursors.{Cursors, Begins};
-ghost use Rattle.check_part.specs.Tested.{Choice};
+ghost use Rattle.check_part.specs.Tested.{chosenRuns, Choice};
+ghost use Rattle.checker.specs.Checkable.{Checkable};
 ghost use Rattle.checker.specs.Counts.{answerCount};
-ghost use Rattle.checker.specs.Verdicts.{verdictIs, Accepted, AcceptedChosen};
+ghost use Rattle.checker.specs.Verdicts.{verdictIs, Accepted, AcceptedChosen, AcceptedWeighted};
 use field_read::Field;
 use field_read::Part;
 use first_checks::Checked;
@@ -45,14 +46,15 @@ fn answers_in(part: Part) -> usize
 fn check_parts(
     numbers: &[u32],
     ends: &[u32],
+    weights: &[u32],
     mask: u64,
     threshold: usize,
     few: usize,
     cursors: &mut [u64],
     certificate: &[u8],
 ) -> Verdict
-    requires { ⌜ Cursors (now numbers) (now ends) (now cursors) firstBin × Choice (now ends) mask threshold few ⌝ }
-    ensures { λ r. ⌜ verdictIs r ≡ checkFrom (length (now (certificate .entry))) (chosen mask (runs (now (numbers .entry)) (now (ends .entry)))) threshold firstBin 0 (now (certificate .entry)) ⌝ }
+    requires { ⌜ Cursors (now numbers) (now ends) (now cursors) firstBin × Choice (now ends) (now weights) mask threshold few ⌝ }
+    ensures { λ r. ⌜ verdictIs r ≡ checkFrom (length (now (certificate .entry))) (chosenRuns (now (numbers .entry)) (now (ends .entry)) (now (weights .entry)) mask) threshold firstBin 0 (now (certificate .entry)) ⌝ }
 {
     let mut bin: u64 = limits::FIRST_BIN as u64;
     let mut at: usize = 0;
@@ -68,6 +70,7 @@ fn check_parts(
         let number = check_part::check_part(
             numbers,
             ends,
+            weights,
             mask,
             threshold,
             few,
@@ -102,36 +105,57 @@ fn check_parts(
 fn check_all(
     numbers: &[u32],
     ends: &[u32],
+    weights: &[u32],
     mask: u64,
     threshold: usize,
     few: usize,
     cursors: &mut [u64],
     certificate: &[u8],
 ) -> Verdict
-    requires { ⌜ Begins (now numbers) (now ends) (now cursors) × Choice (now ends) mask threshold few ⌝ }
-    ensures { λ r. ⌜ verdictIs r ≡ checkFrom (length (now (certificate .entry))) (chosen mask (runs (now (numbers .entry)) (now (ends .entry)))) threshold firstBin 0 (now (certificate .entry)) ⌝ }
+    requires { ⌜ Begins (now numbers) (now ends) (now cursors) × Choice (now ends) (now weights) mask threshold few ⌝ }
+    ensures { λ r. ⌜ verdictIs r ≡ checkFrom (length (now (certificate .entry))) (chosenRuns (now (numbers .entry)) (now (ends .entry)) (now (weights .entry)) mask) threshold firstBin 0 (now (certificate .entry)) ⌝ }
 {
     check_cursor::begin(numbers, ends, cursors);
-    check_parts(numbers, ends, mask, threshold, few, cursors, certificate)
+    check_parts(
+        numbers,
+        ends,
+        weights,
+        mask,
+        threshold,
+        few,
+        cursors,
+        certificate,
+    )
 }
 
-// The check of lists, a mask and a threshold that pass the first checks.
+// The check of lists, weights, a mask and a threshold that pass the first checks. The runs that a gap names must weigh `few`, so that those that it leaves out
+// weigh less than the threshold.
 fn check_passed(
     numbers: &[u32],
     ends: &[u32],
+    weights: &[u32],
     mask: u64,
     threshold: u32,
     certificate: &[u8],
 ) -> Verdict
-    requires { ⌜ chosenChecks (now numbers) (now ends) mask threshold ≡ passed ⌝ }
-    ensures { λ r. ⌜ verdictIs r ≡ checkFrom (length (now (certificate .entry))) (chosen mask (runs (now (numbers .entry)) (now (ends .entry)))) threshold firstBin 0 (now (certificate .entry)) ⌝ }
+    requires { ⌜ Checkable (now numbers) (now ends) (now weights) mask threshold ⌝ }
+    ensures { λ r. ⌜ verdictIs r ≡ checkFrom (length (now (certificate .entry))) (chosenRuns (now (numbers .entry)) (now (ends .entry)) (now (weights .entry)) mask) threshold firstBin 0 (now (certificate .entry)) ⌝ }
 {
     let mut cursors = [0u64; limits::MOST_RUNS];
     let k = ends.len();
     let t = arith::usize_of_u32(threshold);
-    let count = arith::usize_of_u32(mask::ones_of(mask));
-    let few = count - t + 1;
-    check_all(numbers, ends, mask, t, few, &mut cursors[0..k], certificate)
+    let total = weights::weight_of(mask, weights);
+    let few = total - t + 1;
+    check_all(
+        numbers,
+        ends,
+        weights,
+        mask,
+        t,
+        few,
+        &mut cursors[0..k],
+        certificate,
+    )
 }
 
 // A refusal by the first checks.
@@ -156,6 +180,7 @@ pub fn check(numbers: &[u32], ends: &[u32], threshold: u32, certificate: &[u8]) 
         Checked::Passed => check_passed(
             numbers,
             ends,
+            &ends[0..0],
             mask::all_runs(ends.len()),
             threshold,
             certificate,
@@ -176,6 +201,30 @@ pub fn check_chosen(
 {
     match first_checks::chosen_checks(numbers, ends, mask, threshold) {
         Checked::Refused { number, place } => refused(number, place),
-        Checked::Passed => check_passed(numbers, ends, mask, threshold, certificate),
+        Checked::Passed => check_passed(numbers, ends, &ends[0..0], mask, threshold, certificate),
+    }
+}
+
+// The same by all runs, each with its weight in the row: the runs that an answer names must weigh `wanted`, and those that a gap leaves out less.
+pub fn check_weighted(
+    numbers: &[u32],
+    ends: &[u32],
+    weights: &[u32],
+    wanted: u32,
+    certificate: &[u8],
+) -> Verdict
+    ensures verdict { λ r. ⌜ verdictIs r ≡ checkWeighted (now (numbers .entry)) (now (ends .entry)) (now (weights .entry)) wanted (now (certificate .entry)) ⌝ }
+    ensures accepted { λ r. ⌜ AcceptedWeighted (now (numbers .entry)) (now (ends .entry)) (now (weights .entry)) wanted (now (certificate .entry)) (verdictIs r) ⌝ }
+{
+    match first_checks::weighted_checks(numbers, ends, weights, wanted) {
+        Checked::Refused { number, place } => refused(number, place),
+        Checked::Passed => check_passed(
+            numbers,
+            ends,
+            weights,
+            mask::all_runs(ends.len()),
+            wanted,
+            certificate,
+        ),
     }
 }

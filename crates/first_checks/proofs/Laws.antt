@@ -1,15 +1,16 @@
 -- One turn of each loop, as a law about the definition that the loop computes. Assumes nothing.
 use Prim.Native.Nat.{ℕ, suc, _+_, _-_, _≤_, _<_}
-use borrow.Author.Tests.{lt-ltb, le-ltb}
+use borrow.Author.Tests.{lt-ltb, le-ltb, eq-eqb, ne-eqb}
 use lib.ListN.{length, getD, take, drop, drop-of-length-le}
 use lib.Seq.{drop-cons}
 use mathlib.Core.List.{List}
+use mathlib.Core.Logic.{_≢_}
 use mathlib.Core.Option.{none, some}
 use mathlib.Core.Path.{_≡_, sym, ap, _∙_}
 use native.Mathlib.Numerals.{add-one}
 use native.Mathlib.Omega.{arith}
-use Rattle.model.specs.Refusals.{fallsFrom, lastEnd, unrisenIn}
-use Rattle.model.specs.Runs.{slice, unrisenRun}
+use Rattle.model.specs.Refusals.{fallsFrom, lastEnd, unrisenIn, misweighed}
+use Rattle.model.specs.Runs.{slice, unrisenRun, mostWeight}
 use Rattle.model.proofs.FirstChecks.{not-fallen, end-last, not-unrisen}
 
 -- ---- the ends
@@ -72,3 +73,24 @@ runs-on numbers ends a i l e = rw (drop-cons ends i 0 l, add-one i) (rw (e, unri
 pub runs-end : (numbers ends : List ℕ) (a i : ℕ) → length ends ≤ i → unrisenIn a numbers (drop i ends) ≡ none
 unfolding unrisenIn
 runs-end numbers ends a i h = rw (drop-of-length-le ends h)
+
+-- ---- the weights
+
+module _ (weights : List ℕ) (i : ℕ) where
+  pub weighs-none : i < length weights → getD weights i 0 ≡ 0 → misweighed i (drop i weights) ≡ some i
+  unfolding misweighed
+  weighs-none l h = rw (drop-cons weights i 0 l) (rw (eq-eqb (getD weights i 0) 0 h, misweighed))
+
+  pub too-heavy : i < length weights → getD weights i 0 ≢ 0 → mostWeight < getD weights i 0 → misweighed i (drop i weights) ≡ some i
+  unfolding misweighed
+  too-heavy l n h = rw (drop-cons weights i 0 l) (rw (ne-eqb (getD weights i 0) 0 n, lt-ltb mostWeight (getD weights i 0) h, misweighed))
+
+  pub weighs-on : i < length weights → getD weights i 0 ≢ 0 → getD weights i 0 ≤ mostWeight
+      → misweighed i (drop i weights) ≡ misweighed (i + 1) (drop (i + 1) weights)
+  unfolding misweighed
+  weighs-on l n h =
+      rw (drop-cons weights i 0 l, add-one i) (rw (ne-eqb (getD weights i 0) 0 n, le-ltb mostWeight (getD weights i 0) h, misweighed))
+
+  pub weighs-end : length weights ≤ i → misweighed i (drop i weights) ≡ none
+  unfolding misweighed
+  weighs-end h = rw (drop-of-length-le weights h)

@@ -3,12 +3,14 @@ use Prim.Native.Nat.{ℕ, _/_, _^_, _≤_, _<_}
 use borrow.Author.Tests.{lt-ltb, le-ltb, eq-eqb, ne-eqb}
 use lib.Dec.{eqb}
 use lib.ListN.{length}
-use mathlib.Core.Bool.{true, false}
+use mathlib.Core.Bool.{true, false, not}
 use mathlib.Core.List.{List}
 use mathlib.Core.Logic.{_≢_}
-use mathlib.Core.Option.{none, some}
+use mathlib.Core.Option.{Option, none, some}
 use mathlib.Core.Path.{_≡_, refl}
-use Rattle.model.specs.Refusals.{Check, passed, refusal, _then_, refuseIf, refuseAt, fallsFrom, lastEnd, unrisenIn, countCheck, thresholdCheck, maskCheck, listChecks}
+use native.Mathlib.Omega.{arith}
+use Rattle.model.specs.Refusals.{Check, passed, refusal, _then_, refuseIf, refuseAt, fallsFrom, lastEnd, unrisenIn, countCheck, weightsCheck, thresholdCheck, maskCheck, listChecks}
+use Rattle.model.proofs.FirstChecks.{count-passed}
 use Rattle.model.specs.Runs.{mostNumbers, mostRuns}
 
 -- ---- checks in order
@@ -40,6 +42,37 @@ module _ (ends : List ℕ) where
   pub runs-pass : length ends ≢ 0 → length ends ≤ mostRuns → countCheck ends ≡ passed
   unfolding countCheck refuseIf
   runs-pass n h = rw (ne-eqb (length ends) 0 n, le-ltb mostRuns (length ends) h)
+
+-- ---- 17
+
+pub other-length : (k n : ℕ) → n ≢ k → refuseIf (not (eqb n k)) 17 k ≡ refusal 17 k
+unfolding refuseIf
+other-length k n h = rw (ne-eqb n k h)
+
+pub same-length : (k n : ℕ) → n ≡ k → refuseIf (not (eqb n k)) 17 k ≡ passed
+unfolding refuseIf
+same-length k n h = rw (eq-eqb n k h)
+
+pub weight-at : {o : Option ℕ} {i : ℕ} → o ≡ some i → refuseAt 17 o ≡ refusal 17 i
+unfolding refuseAt
+weight-at h = rw h
+
+pub weights-pass : {o : Option ℕ} → o ≡ none → refuseAt 17 o ≡ passed
+unfolding refuseAt
+weights-pass h = rw h
+
+-- a row of more weights than there can be runs is refused, or their number is
+pub long-row : (ends weights : List ℕ) (c : Check) → mostRuns < length weights
+    → (countCheck ends then weightsCheck (length ends) weights) ≡ ((countCheck ends then weightsCheck (length ends) weights) then c)
+unfolding weightsCheck _then_
+long-row ends weights c h = go (countCheck ends) refl
+  where
+    go : (a : Check) → countCheck ends ≡ a → (a then weightsCheck (length ends) weights) ≡ ((a then weightsCheck (length ends) weights) then c)
+    go passed e =
+        let k = count-passed ends e .1 in
+        let n : length weights ≢ length ends = omega arith in
+        rw (other-length (length ends) (length weights) n)
+    go (refusal n p) e = refl
 
 -- ---- 2
 

@@ -1,11 +1,13 @@
 // The first checks (docs/SPECIFICATION.md, 'The refusals') for questions and checkers, one function for each that several calls make. Those of the
-// lists are two passes over the ends and one over the numbers.
+// lists are two passes over the ends and one over the numbers, those of weights two over their row.
+ghost use mathlib.Core.Bool.{not};
 ghost use mathlib.Core.Path.{_≡_};
 ghost use mathlib.Core.Option.{none};
 ghost use Prim.Native.Nat.{_≤_};
 ghost use lib.Count.{ones};
+ghost use lib.Dec.{eqb};
 ghost use lib.ListN.{length};
-ghost use Rattle.model.specs.Refusals.{_then_, fallsFrom, lastEnd, unrisenIn, countCheck, thresholdCheck, maskCheck, listChecks, firstChecks, chosenChecks};
+ghost use Rattle.model.specs.Refusals.{_then_, refuseIf, refuseAt, fallsFrom, lastEnd, unrisenIn, misweighed, countCheck, weightsCheck, thresholdCheck, maskCheck, listChecks, firstChecks, weightedChecks, chosenChecks};
 ghost use Rattle.model.specs.Runs.{mostRuns};
 ghost use Rattle.rising.specs.Found.{foundPlace};
 ghost use Rattle.first_checks.specs.Checked.{checkOf};
@@ -83,9 +85,9 @@ pub fn count_check(ends: &[u32]) -> Checked
     Checked::Passed
 }
 
-// Refusal 2: a threshold over `k` runs.
-pub fn threshold_check(k: usize, threshold: usize, place: usize) -> Checked
-    ensures { λ r. ⌜ checkOf r ≡ thresholdCheck k threshold place ⌝ }
+// Refusal 2: a threshold, or a wanted weight, over runs that weigh `most` together.
+pub fn threshold_check(most: usize, threshold: usize, place: usize) -> Checked
+    ensures { λ r. ⌜ checkOf r ≡ thresholdCheck most threshold place ⌝ }
 {
     if threshold == 0 {
         return Checked::Refused {
@@ -93,7 +95,7 @@ pub fn threshold_check(k: usize, threshold: usize, place: usize) -> Checked
             place: place,
         };
     }
-    if k < threshold {
+    if most < threshold {
         return Checked::Refused {
             number: 2,
             place: place,
@@ -130,6 +132,52 @@ fn first_of(first: Checked, second: Checked) -> Checked
         return first;
     };
     second
+}
+
+// Refusal 17 by the length of a row of weights for `k` runs.
+fn length_check(k: usize, length: usize) -> Checked
+    ensures { λ r. ⌜ checkOf r ≡ refuseIf (not (eqb length k)) 17 k ⌝ }
+{
+    if length != k {
+        return Checked::Refused {
+            number: 17,
+            place: k,
+        };
+    }
+    Checked::Passed
+}
+
+// Refusal 17 by the first weight that is outside 1 to 255.
+fn each_check(weights: &[u32]) -> Checked
+    ensures { λ r. ⌜ checkOf r ≡ refuseAt 17 (misweighed 0 (now (weights .entry))) ⌝ }
+{
+    let mut i: usize = 0;
+    while i < weights.len() {
+        let w = weights[i];
+        if w == 0 {
+            return Checked::Refused {
+                number: 17,
+                place: i,
+            };
+        }
+        if limits::MOST_WEIGHT < w {
+            return Checked::Refused {
+                number: 17,
+                place: i,
+            };
+        }
+        i += 1;
+    }
+    Checked::Passed
+}
+
+// Refusal 17: a row of weights for `k` runs.
+pub fn weights_check(k: usize, weights: &[u32]) -> Checked
+    ensures { λ r. ⌜ checkOf r ≡ weightsCheck k (now (weights .entry)) ⌝ }
+{
+    let row = length_check(k, weights.len());
+    let each = each_check(weights);
+    first_of(row, each)
 }
 
 // Refusals 13, at `index`, and 2, at `place`: a mask that chooses some of `k` runs, and a threshold over those.
@@ -198,6 +246,25 @@ pub fn chosen_checks(numbers: &[u32], ends: &[u32], mask: u64, threshold: u32) -
     let choice = choice_check(ends.len(), mask, t, 0, t);
     let Checked::Passed = choice else {
         return choice;
+    };
+    list_checks(numbers, ends)
+}
+
+// Those over all runs with weights, the wanted weight held against what all runs weigh.
+pub fn weighted_checks(numbers: &[u32], ends: &[u32], weights: &[u32], wanted: u32) -> Checked
+    ensures { λ r. ⌜ checkOf r ≡ weightedChecks (now (numbers .entry)) (now (ends .entry)) (now (weights .entry)) wanted ⌝ }
+{
+    let row = first_of(count_check(ends), weights_check(ends.len(), weights));
+    // such a row is refused by now, and its sum might not fit
+    if limits::MOST_RUNS < weights.len() {
+        return row;
+    }
+    let w = arith::usize_of_u32(wanted);
+    let total = weights::sum(weights);
+    let enough = threshold_check(total, w, w);
+    let met = first_of(row, enough);
+    let Checked::Passed = met else {
+        return met;
     };
     list_checks(numbers, ends)
 }

@@ -6,6 +6,9 @@ pub const MOST_RUNS: usize = 64;
 // All runs together have at most so many numbers.
 pub const MOST_NUMBERS: usize = 1048576;
 
+// A weight is a number from 1 to MOST_WEIGHT.
+pub const MOST_WEIGHT: u32 = 255;
+
 // A bin is a number from FIRST_BIN to LAST_BIN; PAST_BIN is the number after the last. 0 is no bin but the unmapped mark.
 pub const FIRST_BIN: u32 = 1;
 

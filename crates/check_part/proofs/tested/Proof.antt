@@ -9,33 +9,38 @@ use Rattle.check_part.proofs.tested.Tie as tie
 
 returns : tie.Need-returns
 returns c =
-    let s = c .before .before .before .before in
+    let s = c .before .before .before .before .before in
     let a = s .args in
-    other-first (a .numbers .now) (a .ends .now) (a .chosen) (a .bin) (a .held) (a .first) (a .last) (a .mask) (a .few) _ (s .pre .1) (omega (arith, c .if1 .taken))
+    other-first (a .numbers .now) (a .ends .now) (a .weights .now) (a .chosen) (a .bin) (a .held) (a .first) (a .last) (a .mask) (a .few) _ (s .pre .1) (omega (arith, c .if1 .taken))
+
+abbrev start-of : tie.Else1 → tie.Start
+start-of c = c .before .before .before .before .before
 
 returns-2 : tie.Need-returns-2
 returns-2 c =
-    let s = c .before .before .before .before .before in
+    let s = start-of (c .before) in
     let a = s .args in
-    other-last (a .numbers .now) (a .ends .now) (a .chosen) (a .bin) (a .held) (a .first) (a .last) (a .mask) (a .few) _ (s .pre .1) (c .before .if1 .left) (c .if2 .taken)
+    other-last (a .numbers .now) (a .ends .now) (a .weights .now) (a .chosen) (a .bin) (a .held) (a .first) (a .last) (a .mask) (a .few) _ (s .pre .1) (c .before .if1 .left) (c .if2 .taken)
 
 misnames-requires : tie.Need-misnames-requires
-misnames-requires c κs = search needs
+misnames-requires c κs = start-of (c .before) .pre .3
 
 returns-3 : tie.Need-returns-3
 returns-3 c =
     let u = c .before in
-    let s = u .before .before .before .before .before .before in
+    let p = u .before .before in
+    let s = start-of p in
     let a = s .args in
-    misnamed-here (a .numbers .now) (a .ends .now) (a .chosen) (a .bin) (a .held) (a .first) (a .last) (a .mask) (a .few) _ (s .pre .1) (s .pre .2)
-    (u .before .before .if1 .left) (u .before .if2 .left) (bin-fits (a .first) (s .fits .first .fits)) (u .misnames .result) (u .misnames .ensures) (c .if3 .taken)
+    misnamed-here (a .numbers .now) (a .ends .now) (a .weights .now) (a .chosen) (a .bin) (a .held) (a .first) (a .last) (a .mask) (a .few) _ (s .pre .1) (s .pre .0 .few) (s .pre .2)
+    (p .if1 .left) (u .before .if2 .left) (bin-fits (a .first) (s .fits .first .fits)) (u .misnames .result) (u .misnames .ensures) (c .if3 .taken)
 
 contradicted-requires : tie.Need-contradicted-requires
 contradicted-requires c κs =
     let u = c .before .before in
-    let s = u .before .before .before .before .before .before in
+    let p = u .before .before in
+    let s = start-of p in
     let a = s .args in
-    let e = u .before .before .if1 .left in (
+    let e = p .if1 .left in (
       weaken (a .numbers .now) (a .ends .now) (a .cursors .now) (a .bin) (a .first) (omega arith) (s .pre .0),
       omega (arith, u .before .if2 .left),
       named-below (a .mask) (a .chosen) (length (a .ends .now)) _ (u .misnames .result) (s .pre .2) (u .misnames .ensures) (c .before .if3 .left),
@@ -48,10 +53,11 @@ returns-4 : tie.Need-returns-4
 returns-4 c =
     let w = c .before .before .before in
     let u = w .before .before .before in
-    let s = u .before .before .before .before .before .before in
+    let p = u .before .before in
+    let s = start-of p in
     let a = s .args in
-    contradicted-here (a .numbers .now) (a .ends .now) (a .chosen) (a .bin) (a .held) (a .first) (a .last) (a .mask) (a .few) _ (s .pre .1) (s .pre .2)
-    (u .before .before .if1 .left) (u .before .if2 .left) (bin-fits (a .first) (s .fits .first .fits)) (u .misnames .result) (u .misnames .ensures)
+    contradicted-here (a .numbers .now) (a .ends .now) (a .weights .now) (a .chosen) (a .bin) (a .held) (a .first) (a .last) (a .mask) (a .few) _ (s .pre .1) (s .pre .0 .few) (s .pre .2)
+    (p .if1 .left) (u .before .if2 .left) (bin-fits (a .first) (s .fits .first .fits)) (u .misnames .result) (u .misnames .ensures)
     (w .before .before .if3 .left) (w .contradicted .result) (w .contradicted .ensures .0) (c .if4 .taken)
 
 same-length-2 : tie.Need-same-length-2
@@ -61,10 +67,11 @@ returns-5 : tie.Need-returns-5
 returns-5 c =
     let w = c .before .before .before in
     let u = w .before .before .before in
-    let s = u .before .before .before .before .before .before in
+    let p = u .before .before in
+    let s = start-of p in
     let a = s .args in
-    passed-here (a .numbers .now) (a .ends .now) (a .chosen) (a .bin) (a .held) (a .first) (a .last) (a .mask) (a .few) _ (s .pre .1) (s .pre .2)
-    (u .before .before .if1 .left) (u .before .if2 .left) (bin-fits (a .first) (s .fits .first .fits)) (u .misnames .result) (u .misnames .ensures)
+    passed-here (a .numbers .now) (a .ends .now) (a .weights .now) (a .chosen) (a .bin) (a .held) (a .first) (a .last) (a .mask) (a .few) _ (s .pre .1) (s .pre .0 .few) (s .pre .2)
+    (p .if1 .left) (u .before .if2 .left) (bin-fits (a .first) (s .fits .first .fits)) (u .misnames .result) (u .misnames .ensures)
     (w .before .before .if3 .left) (w .contradicted .result) (w .contradicted .ensures .0) (c .if4 .left) (w .contradicted .ensures .1)
 
 pub tested-spec : {M : Type 1} → statement M

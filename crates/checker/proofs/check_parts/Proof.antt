@@ -12,11 +12,11 @@ use Rattle.checker.proofs.check_parts.Statement.{statement}
 use Rattle.checker.proofs.check_parts.Tie as tie
 
 abbrev Inv-loop : tie.InvT-loop
-Inv-loop numbers ends mask threshold few cursors₀ certificate bin₀ at₀ answers₀ parts₀ cursors bin at answers parts =
-    Along numbers ends mask threshold certificate cursors bin at answers parts × (length cursors₀ ≡ length ends) × Choice ends mask threshold few
+Inv-loop numbers ends weights mask threshold few cursors₀ certificate bin₀ at₀ answers₀ parts₀ cursors bin at answers parts =
+    Along numbers ends weights mask threshold certificate cursors bin at answers parts × (length cursors₀ ≡ length ends) × Choice ends weights mask threshold few
 
 abbrev μ-loop : tie.MeasureT-loop
-μ-loop numbers ends mask threshold few cursors₀ certificate bin₀ at₀ answers₀ parts₀ cursors bin at answers parts =
+μ-loop numbers ends weights mask threshold few cursors₀ certificate bin₀ at₀ answers₀ parts₀ cursors bin at answers parts =
     length certificate - at
 
 cast-bin : tie.Need-cast-bin Inv-loop μ-loop
@@ -24,9 +24,16 @@ cast-bin c = search needs
 
 loop-holds : tie.Need-loop-holds Inv-loop μ-loop
 loop-holds c =
-    let s = c .before .before .before .before in
+    let s = c .before .before .before .before .before in
     let a = s .args in
-    (along-start (a .numbers .now) (a .ends .now) (a .mask) (a .threshold) (a .certificate .now) (a .cursors .now) (s .pre .0), s .pre .0 .lengths, s .pre .1)
+    (along-start (a .numbers .now) (a .ends .now) (a .weights .now) (a .mask) (a .threshold) (a .certificate .now) (a .cursors .now) (s .pre .0), s .pre .0 .lengths, s .pre .1)
+
+abbrev start-of : tie.At-loop Inv-loop μ-loop → tie.Start Inv-loop μ-loop
+start-of l = l .before .before .before .before .before .before
+
+-- there are as many cursors as before
+kept : (l : tie.At-loop Inv-loop μ-loop) → length (l .loop .cursors) ≡ length (start-of l .args .cursors .now)
+kept l = l .loop .inv .0 .ready .lengths ∙ sym (l .loop .inv .1)
 
 read-field-requires : tie.Need-read-field-requires Inv-loop μ-loop
 read-field-requires c κs = search needs
@@ -38,31 +45,37 @@ enum-told : tie.Need-enum-told Inv-loop μ-loop
 enum-told c = search needs
 
 same-length : tie.Need-same-length Inv-loop μ-loop
-same-length c = c .before .before .before .before .loop .inv .0 .ready .lengths ∙ sym (c .before .before .before .before .loop .inv .1)
+same-length c = kept (c .before .before .before .before)
 
 returns : tie.Need-returns Inv-loop μ-loop
 returns c =
-    let a = c .before .before .before .before .before .before .before .before .before .args in
-    let l = c .before .before .before .before .loop in
+    let p = c .before .before .before .before in
+    let a = start-of p .args in
+    let l = p .loop in
     let u = c .before .before .read-field in
-    along-unreadable (a .numbers .now) (a .ends .now) (a .mask) (a .threshold) (a .certificate .now) (l .cursors) (l .bin) (l .at) (l .answers) (l .parts) (l .inv .0) (omega arith) (u .result) (c .enum-told .given .1) (u .ensures .0)
+    along-unreadable (a .numbers .now) (a .ends .now) (a .weights .now) (a .mask) (a .threshold) (a .certificate .now) (l .cursors) (l .bin) (l .at) (l .answers) (l .parts) (l .inv .0) (omega arith) (u .result) (c .enum-told .given .1) (u .ensures .0)
 
 check-part-requires : tie.Need-check-part-requires Inv-loop μ-loop
 check-part-requires c κs =
     let l = c .before .before .before .before .before .before .loop in
     (l .inv .0 .ready, l .inv .2)
 
+-- a turn's start
+abbrev turn-of : tie.After-check-part Inv-loop μ-loop → tie.At-loop Inv-loop μ-loop
+turn-of c = c .before .before .before .before .before .before .before
+
 same-length-2 : tie.Need-same-length-2 Inv-loop μ-loop
-same-length-2 c = c .before .before .before .check-part .kept .1 .1 .1 .1 .1 .0 ∙ (c .before .before .before .before .before .before .before .before .before .before .loop .inv .0 .ready .lengths ∙ sym (c .before .before .before .before .before .before .before .before .before .before .loop .inv .1))
+same-length-2 c = let k = c .before .before .before in k .check-part .kept .1 .1 .1 .1 .1 .1 .0 ∙ kept (turn-of k)
 
 returns-2 : tie.Need-returns-2 Inv-loop μ-loop
 returns-2 c =
-    let a = c .before .before .before .before .before .before .before .before .before .before .before .before .before .before .before .args in
-    let l = c .before .before .before .before .before .before .before .before .before .before .loop in
-    let u = c .before .before .before .before .before .before .before .before .read-field in
-    let g = c .before .before .before .before .before .before .part .given in
-    let k = c .before .before .before .check-part in
-    along-refused (a .numbers .now) (a .ends .now) (a .mask) (a .threshold) (a .certificate .now) (l .cursors) (l .bin) (l .at) (l .answers) (l .parts) (l .inv .0) (omega arith) (u .result) (g .0 .0) (g .0 .1 .0) (g .1) (u .ensures .0) _ (k .result) (k .ensures) (c .if1 .taken)
+    let k = c .before .before .before in
+    let p = turn-of k in
+    let a = start-of p .args in
+    let l = p .loop in
+    let u = k .before .before .before .before .before .read-field in
+    let g = k .before .before .before .part .given in
+    along-refused (a .numbers .now) (a .ends .now) (a .weights .now) (a .mask) (a .threshold) (a .certificate .now) (l .cursors) (l .bin) (l .at) (l .answers) (l .parts) (l .inv .0) (omega arith) (u .result) (g .0 .0) (g .0 .1 .0) (g .1) (u .ensures .0) _ (k .check-part .result) (k .check-part .ensures) (c .if1 .taken)
 
 past-requires : tie.Need-past-requires Inv-loop μ-loop
 past-requires c κs = search needs
@@ -70,63 +83,73 @@ past-requires c κs = search needs
 answers-in-requires : tie.Need-answers-in-requires Inv-loop μ-loop
 answers-in-requires c κs = search needs
 
+-- the part of this turn, checked
+abbrev part-of : tie.After-answers-in Inv-loop μ-loop → tie.After-check-part Inv-loop μ-loop
+part-of c = c .before .before .before .before .before
+
 add-answers : tie.Need-add-answers Inv-loop μ-loop
 add-answers c =
-    let t = c .before .before .before .before .before .before .before .before .before .before .before in
-    let l = t .before .loop in
-    let g = c .before .before .before .before .before .before .before .before .part .given in
+    let k = part-of c in
+    let p = turn-of k in
+    let l = p .loop in
+    let g = k .before .before .before .part .given in
     let w = answers-few (partOf (g .0 .0)) in
     let e = c .answers-in .ensures in
     let f = l .inv .0 .few in
     let s = l .inv .0 .slow in
-    let d = t .before .before .before .before .before .before .good in
-    omega (arith, e, t .loop-test .taken)
+    let d = start-of p .good in
+    omega (arith, e, k .before .before .before .before .before .before .loop-test .taken)
 
 add-parts : tie.Need-add-parts Inv-loop μ-loop
 add-parts c =
-    let s = c .before .before .before .before .before .before .before .before .before .before .before .before .loop .inv .0 .slow in
+    let s = turn-of (part-of c) .loop .inv .0 .slow in
     omega (arith, s)
 
 loop-less : tie.Need-loop-less Inv-loop μ-loop
 loop-less c =
-    let a = c .before .before .before .before .before .before .before .before .before .before .before .before .before .before .before .before .before .args in
-    let l = c .before .before .before .before .before .before .before .before .before .before .before .before .loop in
-    let u = c .before .before .before .before .before .before .before .before .before .before .read-field in
-    let g = c .before .before .before .before .before .before .before .before .part .given in
-    let e = next-is (a .numbers .now) (a .ends .now) (a .mask) (a .threshold) (a .certificate .now) (l .cursors) (l .bin) (l .at) (l .answers) (l .parts) (l .inv .0) (u .result) (g .0 .0) (g .0 .1 .0) (g .1) (u .ensures .1) in
+    let k = part-of c in
+    let p = turn-of k in
+    let a = start-of p .args in
+    let l = p .loop in
+    let u = k .before .before .before .before .before .read-field in
+    let g = k .before .before .before .part .given in
+    let e = next-is (a .numbers .now) (a .ends .now) (a .weights .now) (a .mask) (a .threshold) (a .certificate .now) (l .cursors) (l .bin) (l .at) (l .answers) (l .parts) (l .inv .0) (u .result) (g .0 .0) (g .0 .1 .0) (g .1) (u .ensures .1) in
     let s = size-pos (partOf (g .0 .0)) in
     omega (arith, e, s)
 
 loop-again : tie.Need-loop-again Inv-loop μ-loop
 loop-again c =
-    let a = c .before .before .before .before .before .before .before .before .before .before .before .before .before .before .before .before .before .args in
-    let l = c .before .before .before .before .before .before .before .before .before .before .before .before .loop in
-    let u = c .before .before .before .before .before .before .before .before .before .before .read-field in
-    let g = c .before .before .before .before .before .before .before .before .part .given in
-    let k = c .before .before .before .before .before .check-part in
+    let k = part-of c in
+    let p = turn-of k in
+    let a = start-of p .args in
+    let l = p .loop in
+    let u = k .before .before .before .before .before .read-field in
+    let g = k .before .before .before .part .given in
     let b = c .before .past in (
-      along-on (a .numbers .now) (a .ends .now) (a .mask) (a .threshold) (a .certificate .now) (l .cursors) (l .bin) (l .at) (l .answers) (l .parts) (l .inv .0) (omega arith) (u .result) (g .0 .0) (g .0 .1 .0) (g .1) (u .ensures .0) (u .ensures .1) (k .last .1 .1 .1 .1 .1 .0) (k .result) (k .ensures) (c .before .before .if1 .left) (b .result) (c .answers-in .result) (b .ensures) (c .answers-in .ensures),
+      along-on (a .numbers .now) (a .ends .now) (a .weights .now) (a .mask) (a .threshold) (a .certificate .now) (l .cursors) (l .bin) (l .at) (l .answers) (l .parts) (l .inv .0) (omega arith) (u .result) (g .0 .0) (g .0 .1 .0) (g .1) (u .ensures .0) (u .ensures .1) (k .check-part .last .1 .1 .1 .1 .1 .1 .0) (k .check-part .result) (k .check-part .ensures) (c .before .before .if1 .left) (b .result) (c .answers-in .result) (b .ensures) (c .answers-in .ensures),
       l .inv .1,
       l .inv .2,
     )
 
 same-length-3 : tie.Need-same-length-3 Inv-loop μ-loop
-same-length-3 c = c .before .before .loop .inv .0 .ready .lengths ∙ sym (c .before .before .loop .inv .1)
+same-length-3 c = kept (c .before .before)
 
 returns-3 : tie.Need-returns-3 Inv-loop μ-loop
 returns-3 c =
-    let a = c .before .before .before .before .before .before .before .args in
-    let l = c .before .before .loop in
-    along-valid (a .numbers .now) (a .ends .now) (a .mask) (a .threshold) (a .certificate .now) (l .cursors) (l .bin) (l .at) (l .answers) (l .parts) (l .inv .0) (omega arith) (c .if2 .taken)
+    let p = c .before .before in
+    let a = start-of p .args in
+    let l = p .loop in
+    along-valid (a .numbers .now) (a .ends .now) (a .weights .now) (a .mask) (a .threshold) (a .certificate .now) (l .cursors) (l .bin) (l .at) (l .answers) (l .parts) (l .inv .0) (omega arith) (c .if2 .taken)
 
 same-length-4 : tie.Need-same-length-4 Inv-loop μ-loop
-same-length-4 c = c .before .before .loop .inv .0 .ready .lengths ∙ sym (c .before .before .loop .inv .1)
+same-length-4 c = kept (c .before .before)
 
 returns-4 : tie.Need-returns-4 Inv-loop μ-loop
 returns-4 c =
-    let a = c .before .before .before .before .before .before .before .args in
-    let l = c .before .before .loop in
-    along-uncovered (a .numbers .now) (a .ends .now) (a .mask) (a .threshold) (a .certificate .now) (l .cursors) (l .bin) (l .at) (l .answers) (l .parts) (l .inv .0) (omega arith) (c .if2 .left)
+    let p = c .before .before in
+    let a = start-of p .args in
+    let l = p .loop in
+    along-uncovered (a .numbers .now) (a .ends .now) (a .weights .now) (a .mask) (a .threshold) (a .certificate .now) (l .cursors) (l .bin) (l .at) (l .answers) (l .parts) (l .inv .0) (omega arith) (c .if2 .left)
 
 pub check-parts-spec : {M : Type 1} → statement M
 check-parts-spec =

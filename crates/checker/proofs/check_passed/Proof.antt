@@ -1,11 +1,12 @@
--- `check_passed` places the cursors in their room and counts once how many runs a gap must name. Assumes nothing.
+-- `check_passed` places the cursors in their room and finds once how much a gap's runs must weigh. Assumes nothing.
 use lib.ListN.{length}
 use mathlib.Core.Path.{ap, _∙_}
 use native.Mathlib.Omega.{arith}
-use Rattle.model.proofs.FirstChecks.{fits, ChosenPassed, chosen-passed}
+use Rattle.check_part.specs.Tested.{chosenRuns}
+use Rattle.model.proofs.FirstChecks.{fits, lists-passed}
 use Rattle.model.specs.Demands.{Fits}
 use Rattle.model.specs.Refusals.{checkFrom}
-use Rattle.model.specs.Runs.{firstBin, pastBin, runs, chosen}
+use Rattle.model.specs.Runs.{firstBin, pastBin}
 use Rattle.check_cursor.proofs.Moving.{bin-fits}
 use Rattle.check_cursor.proofs.Placing.{begins}
 use Rattle.checker.proofs.Accepting.{choice}
@@ -16,25 +17,26 @@ use Rattle.checker.proofs.check_passed.Tie as tie
 usize-of-u32-requires : tie.Need-usize-of-u32-requires
 usize-of-u32-requires c κs = search needs
 
-ones-of-requires : tie.Need-ones-of-requires
-ones-of-requires c κs = search needs
+weight-of-requires : tie.Need-weight-of-requires
+weight-of-requires c κs = c .before .before .before .before .before .pre .row
 
-usize-of-u32-requires-2 : tie.Need-usize-of-u32-requires-2
-usize-of-u32-requires-2 c κs = search needs
-
-has-passed : (c : tie.Start) → (let a = c .args in ChosenPassed (a .numbers .now) (a .ends .now) (a .mask) (a .threshold))
-has-passed c = let a = c .args in chosen-passed (a .numbers .now) (a .ends .now) (a .mask) (a .threshold) (c .pre)
+abbrev lent-of : tie.After-weight-of → tie.After-shared-slice-known
+lent-of c = c .before .before .before .before .before
 
 fits-bins : (c : tie.After-shared-slice-known) → Fits pastBin (c .before .args .numbers .now)
 fits-bins c = fits pastBin (c .before .args .numbers .now) (λ i. bin-fits _ (c .shared-slice-known .given i .fits))
 
 sub-few : tie.Need-sub-few
 sub-few c =
-    let m = has-passed (c .before .before .before .before .before .before) .met in
-    omega (arith, m, c .usize-of-u322 .ensures, c .before .ones-of .ensures, c .before .before .usize-of-u32 .ensures)
+    let m = lent-of c .before .pre .met in
+    omega (arith, m, c .weight-of .ensures, c .before .usize-of-u32 .ensures)
 
 add-few : tie.Need-add-few
-add-few c = search needs
+add-few c =
+    let s = lent-of c .before .pre in
+    let h = s .some in
+    let m = s .met in
+    record { fits = omega (arith, c .weight-of .ensures, c .before .usize-of-u32 .ensures) }
 
 sub-check-all : tie.Need-sub-check-all
 sub-check-all c = search needs
@@ -43,33 +45,33 @@ part-cursors-start : tie.Need-part-cursors-start
 part-cursors-start c = search needs
 
 part-cursors-end : tie.Need-part-cursors-end
-part-cursors-end c = has-passed (c .before .before .before .before .before .before) .few-runs
+part-cursors-end c = lent-of c .before .pre .few
 
 check-all-requires : tie.Need-check-all-requires
 check-all-requires c κs =
-    let u = c .before in
-    let k = u .before .before .before .before .before in
-    let a = k .before .args in
-    let p = has-passed (k .before) in
-    let f = p .few-runs in (
-      begins (a .numbers .now) (a .ends .now) _ (fits-bins k) f (p .lists) (search needs),
-      choice (a .ends .now) (a .mask) (u .before .before .usize-of-u32 .result) (u .usize-of-u322 .result) (p .only) (u .usize-of-u322 .ensures ∙ u .before .ones-of .ensures),
+    let w = c .before in
+    let k = lent-of w in
+    let s = k .before in
+    let a = s .args in
+    let p = s .pre in
+    let f = p .few in (
+      begins (a .numbers .now) (a .ends .now) _ (fits-bins k) f (lists-passed (a .numbers .now) (a .ends .now) (p .lists)) (search needs),
+      choice (a .numbers .now) (a .ends .now) (a .weights .now) (a .mask) (a .threshold) (w .before .usize-of-u32 .result) (w .weight-of .result) p (w .before .usize-of-u32 .ensures) (w .weight-of .ensures),
     )
 
 returns : tie.Need-returns
 returns c =
-    let u = c .before .before .before in
-    let a = u .before .before .before .before .before .before .args in
+    let w = c .before .before .before in
+    let a = lent-of w .before .args in
     c .before .check-all .ensures
-    ∙ ap (λ t. checkFrom (length (a .certificate .now)) (chosen (a .mask) (runs (a .numbers .now) (a .ends .now))) t firstBin 0 (a .certificate .now)) (u .before .before .usize-of-u32 .ensures)
+    ∙ ap (λ t. checkFrom (length (a .certificate .now)) (chosenRuns (a .numbers .now) (a .ends .now) (a .weights .now) (a .mask)) t firstBin 0 (a .certificate .now)) (w .before .usize-of-u32 .ensures)
 
 pub check-passed-spec : {M : Type 1} → statement M
 check-passed-spec =
     tie.close
     (tie.spec
     usize-of-u32-requires
-    ones-of-requires
-    usize-of-u32-requires-2
+    weight-of-requires
     sub-few
     add-few
     sub-check-all
