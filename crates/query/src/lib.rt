@@ -1,12 +1,15 @@
-// The question: which bins at least t of the runs hold, with a certificate (docs/SPECIFICATION.md, 'The walk').
+// The question: which bins at least t of the runs hold, or runs that weigh enough, with a certificate (docs/SPECIFICATION.md, 'The walk').
 ghost use mathlib.Core.Path.{_≡_};
 ghost use Prim.Native.Nat.{_≤_};
 ghost use lib.ListN.{length};
 ghost use Rattle.walk_tally.specs.Tally.{undoubled};
 ghost use Rattle.walk_write.specs.Writes.{countsOf};
 ghost use Rattle.model.specs.Demands.{Demand2, Demand3};
-ghost use Rattle.model.specs.Refusals.{passed, firstChecks, query};
+ghost use Rattle.model.specs.Refusals as model;
+ghost use Rattle.model.specs.Refusals.{passed, firstChecks, weightedChecks, answeredBy, query, queryWeighted};
+ghost use Rattle.model.specs.Runs.{runs, weighted};
 ghost use Rattle.walk_progress.specs.Progress.{outcomeAt};
+ghost use Rattle.query.specs.Answerable.{Answerable};
 ghost use Rattle.query.specs.Outcomes.{outcomeIs, Returns};
 use first_checks::Checked;
 use walk_rounds::End;
@@ -57,24 +60,26 @@ fn outcome_of(end: End, allowance: u32) -> Outcome
     }
 }
 
-// A question that passes the first checks: the walk over all runs, with the whole allowance, into buffers from their first place on. `firsts` has a place for
-// each run, where its bins begin.
+// A question that passes the first checks: the walk over all runs, with the whole allowance, into buffers from their first place on. `weights` has a weight for each
+// run, or none; `firsts` has a place for each run, where its bins begin.
 fn answer_with(
     numbers: &[u32],
     ends: &[u32],
+    weights: &[u32],
     threshold: usize,
     allowance: u32,
     firsts: &mut [u32],
     answers: &mut [u32],
     certificate: &mut [u8],
 ) -> Outcome
-    requires { ⌜ (firstChecks (now numbers) (now ends) threshold ≡ passed) × (length (now firsts) ≡ length (now ends)) ⌝ }
-    ensures { λ r. ⌜ Returns (query (now (numbers .entry)) (now (ends .entry)) threshold allowance (now (answers .entry)) (now (certificate .entry))) (outcomeIs r) (now (answers .exit)) (now (certificate .exit)) ⌝ }
+    requires { ⌜ Answerable (now numbers) (now ends) (now weights) threshold × (length (now firsts) ≡ length (now ends)) ⌝ }
+    ensures { λ r. ⌜ Returns (answeredBy passed (weighted (now (weights .entry)) (runs (now (numbers .entry)) (now (ends .entry)))) threshold allowance (now (answers .entry)) (now (certificate .entry))) (outcomeIs r) (now (answers .exit)) (now (certificate .exit)) ⌝ }
 {
     walk_begin::first_places(numbers, ends, firsts);
     let end = walk_whole::question_walk(
         numbers,
         ends,
+        weights,
         mask::all_runs(ends.len()),
         threshold,
         answers,
@@ -91,25 +96,41 @@ fn answer_with(
 fn answer(
     numbers: &[u32],
     ends: &[u32],
+    weights: &[u32],
     threshold: usize,
     allowance: u32,
     answers: &mut [u32],
     certificate: &mut [u8],
 ) -> Outcome
-    requires { ⌜ firstChecks (now numbers) (now ends) threshold ≡ passed ⌝ }
-    ensures { λ r. ⌜ Returns (query (now (numbers .entry)) (now (ends .entry)) threshold allowance (now (answers .entry)) (now (certificate .entry))) (outcomeIs r) (now (answers .exit)) (now (certificate .exit)) ⌝ }
+    requires { ⌜ Answerable (now numbers) (now ends) (now weights) threshold ⌝ }
+    ensures { λ r. ⌜ Returns (answeredBy passed (weighted (now (weights .entry)) (runs (now (numbers .entry)) (now (ends .entry)))) threshold allowance (now (answers .entry)) (now (certificate .entry))) (outcomeIs r) (now (answers .exit)) (now (certificate .exit)) ⌝ }
 {
     let mut firsts = [0u32; limits::MOST_RUNS];
     let k = ends.len();
     answer_with(
         numbers,
         ends,
+        weights,
         threshold,
         allowance,
         &mut firsts[0..k],
         answers,
         certificate,
     )
+}
+
+// A refusal by the first checks.
+fn refused(number: u8, place: usize) -> Outcome
+    ensures { λ r. ⌜ outcomeIs r ≡ model.refused number place 0 0 0 0 ⌝ }
+{
+    Outcome::Refused {
+        number: number,
+        place: place,
+        answers: 0,
+        bytes: 0,
+        doublings: 0,
+        halvings: 0,
+    }
 }
 
 // Which bins at least `threshold` runs hold, with a certificate, by at most `allowance` probes. `ends` holds the places in `numbers` after each run's last.
@@ -122,22 +143,45 @@ pub fn query(
     certificate: &mut [u8],
 ) -> Outcome
     ensures returns { λ r. ⌜ Returns (query (now (numbers .entry)) (now (ends .entry)) threshold allowance (now (answers .entry)) (now (certificate .entry))) (outcomeIs r) (now (answers .exit)) (now (certificate .exit)) ⌝ }
-    ensures demand2 { λ r. ⌜ Demand2 (now (numbers .entry)) (now (ends .entry)) threshold (outcomeIs r) (now (answers .exit)) (now (certificate .exit)) ⌝ }
-    ensures demand3 { λ r. ⌜ Demand3 (now (numbers .entry)) (now (ends .entry)) threshold allowance (now (answers .entry)) (now (certificate .entry)) (outcomeIs r) (now (certificate .exit)) ⌝ }
+    ensures demand2 { λ r. ⌜ Demand2 (firstChecks (now (numbers .entry)) (now (ends .entry)) threshold) (runs (now (numbers .entry)) (now (ends .entry))) threshold (outcomeIs r) (now (answers .exit)) (now (certificate .exit)) ⌝ }
+    ensures demand3 { λ r. ⌜ Demand3 (firstChecks (now (numbers .entry)) (now (ends .entry)) threshold) (runs (now (numbers .entry)) (now (ends .entry))) threshold allowance (now (answers .entry)) (now (certificate .entry)) (outcomeIs r) (now (certificate .exit)) ⌝ }
 {
     match first_checks::first_checks(numbers, ends, threshold) {
-        Checked::Refused { number, place } => Outcome::Refused {
-            number: number,
-            place: place,
-            answers: 0,
-            bytes: 0,
-            doublings: 0,
-            halvings: 0,
-        },
+        Checked::Refused { number, place } => refused(number, place),
         Checked::Passed => answer(
             numbers,
             ends,
+            &ends[0..0],
             arith::usize_of_u32(threshold),
+            allowance,
+            answers,
+            certificate,
+        ),
+    }
+}
+
+// Which bins are held by runs that weigh at least `wanted` together, with a certificate, by at most `allowance` probes. `weights` has a weight from 1 to 255 for
+// each run.
+pub fn query_weighted(
+    numbers: &[u32],
+    ends: &[u32],
+    weights: &[u32],
+    wanted: u32,
+    allowance: u32,
+    answers: &mut [u32],
+    certificate: &mut [u8],
+) -> Outcome
+    ensures returns { λ r. ⌜ Returns (queryWeighted (now (numbers .entry)) (now (ends .entry)) (now (weights .entry)) wanted allowance (now (answers .entry)) (now (certificate .entry))) (outcomeIs r) (now (answers .exit)) (now (certificate .exit)) ⌝ }
+    ensures demand2 { λ r. ⌜ Demand2 (weightedChecks (now (numbers .entry)) (now (ends .entry)) (now (weights .entry)) wanted) (weighted (now (weights .entry)) (runs (now (numbers .entry)) (now (ends .entry)))) wanted (outcomeIs r) (now (answers .exit)) (now (certificate .exit)) ⌝ }
+    ensures demand3 { λ r. ⌜ Demand3 (weightedChecks (now (numbers .entry)) (now (ends .entry)) (now (weights .entry)) wanted) (weighted (now (weights .entry)) (runs (now (numbers .entry)) (now (ends .entry)))) wanted allowance (now (answers .entry)) (now (certificate .entry)) (outcomeIs r) (now (certificate .exit)) ⌝ }
+{
+    match first_checks::weighted_checks(numbers, ends, weights, wanted) {
+        Checked::Refused { number, place } => refused(number, place),
+        Checked::Passed => answer(
+            numbers,
+            ends,
+            weights,
+            arith::usize_of_u32(wanted),
             allowance,
             answers,
             certificate,

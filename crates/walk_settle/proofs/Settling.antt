@@ -84,11 +84,13 @@ module _ (numbers ends ws positions keys : List ℕ) (t : ℕ) (w : State) (n na
 
   pub weighs-here : (n ≡ ones named) × Weighs named ws
   weighs-here =
-      let f = s .few in
-      (number-is, record {
-        few = ⊎-elim (λ (q : 0 < length ws). let e = s .row q in omega arith) (λ (q : length ws ≤ 0). omega arith) (lt-or-le 0 (length ws));
-        within = λ q. subst (λ x. named < 2 ^ x) (runs-are ∙ sym (s .row q)) only-these;
-      })
+      let f = s .few in (
+        number-is,
+        record {
+          few = ⊎-elim (λ (q : 0 < length ws). let e = s .row q in omega arith) (λ (q : length ws ≤ 0). omega arith) (lt-or-le 0 (length ws));
+          within = λ q. subst (λ x. named < 2 ^ x) (runs-are ∙ sym (s .row q)) only-these;
+        },
+      )
 
   -- what they weigh is what the runs at the floor do
   weight-is : namedWeight ws named ≡ equal (w .floor) (weighted ws rs)

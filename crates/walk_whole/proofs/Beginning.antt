@@ -59,20 +59,19 @@ module _ (numbers ends ws firsts : List ℕ) (m t : ℕ) (positions keys A B : L
 
     pub stands-first : Stands numbers ends ws positions′ keys′ t (firstState start answered written tally) × Chooses m numbers ends ws positions′ t
         × Fitted A B (firstState start answered written tally)
-    stands-first =
-        (
-          record {
-            row = b .asked .row;
-            few = b .asked .few;
-            some = b .asked .some;
-            holds = subst (λ x. Holds numbers ends positions′ keys′ start x) (sym (h .runs-are)) h;
-            rising = rising;
-            bin = let e = past-is in omega arith;
-            allowed = b .asked .allowed;
-          },
-          record { only = b .asked .only; enough = met; idle = subst (λ x. Idle m x) (sym (h .runs-are)) (standing-idle m (runs numbers ends)) },
-          record { answered = b .asked .answers-fit; written = b .asked .bytes-fit; parts = omega arith },
-        )
+    stands-first = (
+      record {
+        row = b .asked .row;
+        few = b .asked .few;
+        some = b .asked .some;
+        holds = subst (λ x. Holds numbers ends positions′ keys′ start x) (sym (h .runs-are)) h;
+        rising = rising;
+        bin = let e = past-is in omega arith;
+        allowed = b .asked .allowed;
+      },
+      record { only = b .asked .only; enough = met; idle = subst (λ x. Idle m x) (sym (h .runs-are)) (standing-idle m (runs numbers ends)) },
+      record { answered = b .asked .answers-fit; written = b .asked .bytes-fit; parts = omega arith },
+    )
 
     -- the chosen runs are at their first bins
     chosen-first : askedRuns numbers ends ws m ≡ chosenAt ws m numbers positions′ ends

@@ -1,32 +1,27 @@
 -- `answer_with` finds where the bins of each run begin, walks over all runs and returns how the walk ended. Assumes nothing.
-use mathlib.Core.Path.{_≡_, sym, subst}
 use native.Mathlib.Omega.{arith}
-use Rattle.model.specs.Refusals.{passed, chosenChecks}
-use Rattle.model.proofs.FirstChecks.{Passed, first-passed, all-chosen-checks}
+use Rattle.model.proofs.FirstChecks.{lists-passed}
 use Rattle.query.specs.Outcomes.{outcomeIs}
-use Rattle.query.proofs.Questions.{ends-so}
+use Rattle.query.proofs.Questions.{all-only, all-met, ends-so}
 use borrow.Author.Needs.{needs}
 use Rattle.query.proofs.answer_with.Statement.{statement}
 use Rattle.query.proofs.answer_with.Tie as tie
 
 -- the start, from the first places and from the mask of all runs
 abbrev start-of : tie.After-first-places-arg → tie.Start
-start-of c = c .before .before .before .before .before .before
+start-of c = c .before .before .before .before .before .before .before
 
 abbrev places-of : tie.After-all-runs → tie.After-first-places
 places-of c = c .before .before .before
 
-passed-first : (s : tie.Start) → Passed (s .args .numbers .now) (s .args .ends .now) (s .args .threshold)
-passed-first s = let a = s .args in first-passed (a .numbers .now) (a .ends .now) (a .threshold) (s .pre .0)
-
 first-places-requires : tie.Need-first-places-requires
 first-places-requires c κs =
     let s = start-of c in
-    let p = passed-first s .lists in
+    let p = lists-passed (s .args .numbers .now) (s .args .ends .now) (s .pre .0 .lists) in
     record { rise = p .ends-rise; last = p .ends-last; risen = p .numbers-rise; size = s .pre .1 }
 
 all-runs-requires : tie.Need-all-runs-requires
-all-runs-requires c κs = let k = passed-first (start-of (c .before .before .before)) .few-runs in omega arith
+all-runs-requires c κs = search needs
 
 whole-requires : tie.Need-whole-requires
 whole-requires c κs = search needs
@@ -38,10 +33,14 @@ question-walk-requires c κs =
     let f = places-of m in
     let s = start-of (f .before) in
     let a = s .args in
+    let q = s .pre .0 in
     record {
-      checked =
-          subst (λ x. chosenChecks (a .numbers .now) (a .ends .now) x (a .threshold) ≡ passed) (sym (m .all-runs .ensures))
-          (all-chosen-checks (a .numbers .now) (a .ends .now) (a .threshold) (s .pre .0));
+      few = q .few;
+      row = q .row;
+      only = all-only (a .numbers .now) (a .ends .now) (a .weights .now) (m .all-runs .result) (m .all-runs .ensures);
+      some = q .some;
+      met = all-met (a .numbers .now) (a .ends .now) (a .weights .now) (m .all-runs .result) (m .all-runs .ensures) (a .threshold) q;
+      lists = q .lists;
       placed = f .first-places .ensures;
       answers-fit = search needs;
       bytes-fit = search needs;
@@ -70,9 +69,9 @@ returns c =
     let m = t .before .before .before in
     let s = start-of (places-of m .before) in
     let a = s .args in
-    ends-so (a .numbers .now) (a .ends .now) (m .all-runs .result) (a .threshold) (a .allowance) (t .whole .result) (a .answers .now) (a .certificate .now)
-    (w .question-walk .last .1 .1 .1 .1 .0) (w .question-walk .last .1 .1 .1 .1 .1 .0) (w .question-walk .result) (outcomeIs (c .outcome-of .result)) (s .pre .0)
-    (m .all-runs .ensures) (t .whole .ensures) (w .question-walk .ensures) (c .outcome-of .ensures)
+    ends-so (a .numbers .now) (a .ends .now) (a .weights .now) (m .all-runs .result) (m .all-runs .ensures) (a .threshold) (a .allowance) (t .whole .result)
+    (a .answers .now) (a .certificate .now) (w .question-walk .last .1 .1 .1 .1 .1 .0) (w .question-walk .last .1 .1 .1 .1 .1 .1 .0) (w .question-walk .result)
+    (outcomeIs (c .outcome-of .result)) (t .whole .ensures) (w .question-walk .ensures) (c .outcome-of .ensures)
 
 pub answer-with-spec : {M : Type 1} → statement M
 answer-with-spec =

@@ -1,17 +1,26 @@
 -- `query` returns the specified outcome and buffers for any input, and demands 2 and 3 hold of them. Assumes nothing.
-use mathlib.Core.Path.{sym, ap, _∙_, subst}
+use mathlib.Core.List.{[]}
+use mathlib.Core.Path.{_≡_, sym, ap, _∙_, subst}
 use native.Mathlib.Omega.{arith}
 use Rattle.first_checks.specs.Checked.{checkOf}
 use Rattle.model.specs.Demands.{Fits}
-use Rattle.model.specs.Refusals.{refused, firstChecks, query}
-use Rattle.model.specs.Runs.{pastBin}
+use Rattle.model.specs.Refusals.{passed, firstChecks, answeredBy, query}
+use Rattle.model.specs.Runs.{pastBin, runs, weighted}
+use Rattle.query.specs.Answerable.{Answerable}
 use Rattle.query.specs.Outcomes.{outcomeIs, Returns}
 use Rattle.walk_state.proofs.Moving.{past-is}
-use Rattle.query.proofs.Questions.{refused-first, demanded}
-use Rattle.model.proofs.FirstChecks.{fits}
+use Rattle.query.proofs.Questions.{plain-runs, plain-answerable, refused-first, answered-first, demanded}
+use Rattle.model.proofs.FirstChecks.{fits, fit}
 use borrow.Author.Needs.{needs}
 use Rattle.query.proofs.query.Statement.{statement}
 use Rattle.query.proofs.query.Tie as tie
+
+-- the places before: the start, and the first checks
+abbrev start-of : tie.After-first-checks → tie.Start
+start-of f = f .before .before .before .before .before
+
+fits-bins : (f : tie.After-first-checks) → Fits pastBin (start-of f .args .numbers .now)
+fits-bins f = let e = past-is in fits pastBin (start-of f .args .numbers .now) (λ i. omega (arith, f .before .before .before .before .shared-slice-known .given i))
 
 first-checks-requires : tie.Need-first-checks-requires
 first-checks-requires c κs = search needs
@@ -19,30 +28,41 @@ first-checks-requires c κs = search needs
 enum-known-number : tie.Need-enum-known-number
 enum-known-number c = search needs
 
+refused-requires : tie.Need-refused-requires
+refused-requires c κs = search needs
+
 enum-told : tie.Need-enum-told
 enum-told c = search needs
+
+sub-answer : tie.Need-sub-answer
+sub-answer c = search needs
+
+part-answer-start : tie.Need-part-answer-start
+part-answer-start c = search needs
+
+part-answer-end : tie.Need-part-answer-end
+part-answer-end c = search needs
 
 usize-of-u32-requires : tie.Need-usize-of-u32-requires
 usize-of-u32-requires c κs = search needs
 
 answer-requires : tie.Need-answer-requires
 answer-requires c κs =
-    let a = c .before .before .before .before .before .before .before .before .before .before .args in
-    let f = c .before .before .before .before .before .first-checks in
-    ap (firstChecks (a .numbers .now) (a .ends .now)) (c .before .before .usize-of-u32 .ensures)
-    ∙ (sym (f .ensures) ∙ ap checkOf (c .before .before .before .enum-told .given .1))
-
-fits-bins : (c : tie.After-shared-slice-known) → Fits pastBin (c .before .args .numbers .now)
-fits-bins c = let e = past-is in fits pastBin (c .before .args .numbers .now) (λ i. omega (arith, c .shared-slice-known .given i))
+    let f = c .before .before .before .before .before .before in
+    let a = start-of f .args in
+    subst (λ t. Answerable (a .numbers .now) (a .ends .now) [] t) (sym (c .before .before .usize-of-u32 .ensures))
+    (plain-answerable (a .numbers .now) (a .ends .now) (a .threshold) (sym (f .first-checks .ensures) ∙ ap checkOf (c .before .before .before .before .enum-told .given .1)))
 
 returns : tie.Need-returns
+unfolding query
 returns c =
-    let a = c .before .before .before .before .before .before .before .before .args in
-    let f = c .before .before .before .first-checks in
-    let n = c .before .number .given in
-    demanded (a .numbers .now) (a .ends .now) (a .threshold) (a .allowance) (a .answers .now) (a .certificate .now) (a .answers .now) (a .certificate .now)
-    (refused (n .0 .0) (n .0 .1 .0) 0 0 0 0) (fits-bins (c .before .before .before .before .before .before .before))
-    (refused-first (a .numbers .now) (a .ends .now) (a .threshold) (a .allowance) (a .answers .now) (a .certificate .now) (n .0 .0) (n .0 .1 .0) (sym (f .ensures) ∙ ap checkOf (n .1)))
+    let f = c .before .before .before .before in
+    let a = start-of f .args in
+    let n = c .before .before .number .given in
+    demanded _ (runs (a .numbers .now) (a .ends .now)) (a .threshold) (a .allowance) (a .answers .now) (a .certificate .now) (a .answers .now) (a .certificate .now)
+    (outcomeIs (c .refused .result)) (fit (a .numbers .now) (a .ends .now) (a .threshold) (fits-bins f))
+    (refused-first _ (runs (a .numbers .now) (a .ends .now)) (a .threshold) (a .allowance) (a .answers .now) (a .certificate .now) (n .0 .0) (n .0 .1 .0)
+    (sym (f .first-checks .ensures) ∙ ap checkOf (n .1)) (outcomeIs (c .refused .result)) (c .refused .ensures))
 
 same-length : tie.Need-same-length
 same-length c = search needs
@@ -51,13 +71,20 @@ same-length-2 : tie.Need-same-length-2
 same-length-2 c = search needs
 
 returns-2 : tie.Need-returns-2
+unfolding query
 returns-2 c =
-    let a = c .before .before .before .before .before .before .before .before .before .before .before .before .before .before .before .args in
-    let u = c .before .before .before .before .answer in
-    demanded (a .numbers .now) (a .ends .now) (a .threshold) (a .allowance) (a .answers .now) (a .certificate .now) (u .last .1 .1 .1 .1 .0) (u .last .1 .1 .1 .1 .1 .0)
-    (outcomeIs (u .result)) (fits-bins (c .before .before .before .before .before .before .before .before .before .before .before .before .before .before))
-    (subst (λ x. Returns (query (a .numbers .now) (a .ends .now) x (a .allowance) (a .answers .now) (a .certificate .now)) (outcomeIs (u .result)) (u .last .1 .1 .1 .1 .0) (u .last .1 .1 .1 .1 .1 .0))
-    (c .before .before .before .before .before .before .before .usize-of-u32 .ensures) (u .ensures))
+    let u = c .before .before .before .before in
+    let f = c .before .before .before .before .before .before .before .before .before .before .before in
+    let a = start-of f .args in
+    let o = outcomeIs (u .answer .result) in
+    demanded _ (runs (a .numbers .now) (a .ends .now)) (a .threshold) (a .allowance) (a .answers .now) (a .certificate .now) (u .answer .last .1 .1 .1 .1 .1 .0) (u .answer .last .1 .1 .1 .1 .1 .1 .0)
+    o (fit (a .numbers .now) (a .ends .now) (a .threshold) (fits-bins f))
+    (answered-first _ (runs (a .numbers .now) (a .ends .now)) (a .threshold) (a .allowance) (a .answers .now) (a .certificate .now)
+    (sym (f .first-checks .ensures) ∙ ap checkOf (c .before .before .before .before .before .before .before .before .before .enum-told .given .1)) (u .answer .last .1 .1 .1 .1 .1 .0) (u .answer .last .1 .1 .1 .1 .1 .1 .0) o
+    (subst (λ t. Returns (answeredBy passed (runs (a .numbers .now) (a .ends .now)) t (a .allowance) (a .answers .now) (a .certificate .now)) o (u .answer .last .1 .1 .1 .1 .1 .0) (u .answer .last .1 .1 .1 .1 .1 .1 .0))
+    (c .before .before .before .before .before .before .before .usize-of-u32 .ensures)
+    (subst (λ rs. Returns (answeredBy passed rs (c .before .before .before .before .before .before .before .usize-of-u32 .result) (a .allowance) (a .answers .now) (a .certificate .now)) o (u .answer .last .1 .1 .1 .1 .1 .0) (u .answer .last .1 .1 .1 .1 .1 .1 .0))
+    (plain-runs (a .numbers .now) (a .ends .now)) (u .answer .ensures))))
 
 pub query-spec : {M : Type 1} → statement M
 query-spec =
@@ -65,7 +92,11 @@ query-spec =
     (tie.spec
     first-checks-requires
     enum-known-number
+    refused-requires
     enum-told
+    sub-answer
+    part-answer-start
+    part-answer-end
     usize-of-u32-requires
     answer-requires
     returns

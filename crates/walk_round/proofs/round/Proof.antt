@@ -76,7 +76,7 @@ advance-requires c κs =
       s .pre .2,
       subst (λ v. Advances (a .chosen) (a .numbers .now) (a .ends .now) (a .weights .now) (a .positions .now) (a .threshold) v) (sym (h .reached-head .ensures))
           (advances (a .numbers .now) (a .ends .now) (a .weights .now) (a .positions .now) (a .keys .now) (a .answers .now) (a .certificate .now) (a .chosen) (a .threshold) (a .w)
-    (s .pre .0) (s .pre .1) (s .pre .2) (not-past h (c .before .before .before .before .if1 .left))),
+          (s .pre .0) (s .pre .1) (s .pre .2) (not-past h (c .before .before .before .before .if1 .left))),
     )
 
 same-length-3 : tie.Need-same-length-3
