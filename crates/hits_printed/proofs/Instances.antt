@@ -4,8 +4,8 @@ use mathlib.Core.Bool.{true, false}
 use mathlib.Core.Path.{_≡_, refl}
 use Rattle.model.specs.Certificate.{firstOf, lastOf, answersOf, bytesOf, numberOf, field, encodePart, encode, readBody, readField}
 use Rattle.model.specs.Compared.{wholeWalk, partsOf, cost, doublingProbe, halvingProbe, doublingsOf, halvingsOf}
-use Rattle.model.specs.Refusals.{_then_, refuseIf, refuseAt, fallsFrom, lastEnd, unrisenIn, countCheck, thresholdCheck, listChecks, firstChecks, met, after, cut, cutWalk, over, outcomeOf, query}
-use Rattle.model.specs.Runs.{firstBin, lastBin, pastBin, from, rank, runsFrom, runs, unrisenAfter, unrisen, unrisenRun, total, one, count, mask}
+use Rattle.model.specs.Refusals.{_then_, refuseIf, refuseAt, fallsFrom, lastEnd, unrisenIn, countCheck, thresholdCheck, listChecks, firstChecks, met, after, cut, cutWalk, over, outcomeOf, answeredBy, query}
+use Rattle.model.specs.Runs.{firstBin, lastBin, pastBin, from, rank, runsFrom, runs, unrisenAfter, unrisen, unrisenRun, total, one, weightOf, mask}
 use Rattle.model.specs.Walk.{headOf, head, leastHead, enoughHead, doubling, halving, seek, searchIn, searches, searched, movedOn, settle, round, walk}
 use Rattle.text_read.specs.Pieces.{onFirst, split}
 use Rattle.text_read.specs.Numbers.{isDigit, allDigits, decimalValue, value, number}
@@ -25,8 +25,8 @@ pub listing-printed : (hits false listingInput ≡ listingText) × (hits false s
 unfolding listingInput listingText searchInput searchText refusedInput refusedText partInput partText bytes hits printed parsed textFor asked shown
     mostBytes inputRuns inputNumbers answerRoom certificateRoom onFirst split isDigit allDigits decimalValue value number before numbersOf pair twoWords headingOf runOf runBefore linesFrom limited row endsFrom resultOf parseLines parse
     firstOf lastOf answersOf bytesOf numberOf field encodePart encode readBody readField wholeWalk partsOf cost doublingProbe halvingProbe doublingsOf halvingsOf
-    _then_ refuseIf refuseAt fallsFrom lastEnd unrisenIn countCheck thresholdCheck listChecks firstChecks met after cut cutWalk over outcomeOf query
-    firstBin lastBin pastBin from rank runsFrom runs unrisenAfter unrisen unrisenRun total one count mask
+    _then_ refuseIf refuseAt fallsFrom lastEnd unrisenIn countCheck thresholdCheck listChecks firstChecks met after cut cutWalk over outcomeOf answeredBy query
+    firstBin lastBin pastBin from rank runsFrom runs unrisenAfter unrisen unrisenRun total one weightOf mask
     headOf head leastHead enoughHead doubling halving seek searchIn searches searched movedOn settle round walk
     decimalIn decimal numbersAfter line partLine partLines doneLine refuseLine partsFrom partsHeld rendered
 listing-printed = (refl, refl, refl, refl)

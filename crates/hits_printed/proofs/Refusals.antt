@@ -12,7 +12,7 @@ use mathlib.Core.Path.{_≡_, refl, sym, ap, _∙_, subst}
 use native.Mathlib.Omega.{arith}
 use Rattle.model.specs.Certificate.{Part, answer, gap}
 use Rattle.model.specs.Demands.{Fits}
-use Rattle.model.specs.Refusals.{Check, passed, refusal, _then_, refuseIf, refuseAt, fallsFrom, lastEnd, countCheck, thresholdCheck, listChecks, firstChecks, Outcome, accepted, refused, query}
+use Rattle.model.specs.Refusals.{Check, passed, refusal, _then_, refuseIf, refuseAt, fallsFrom, lastEnd, countCheck, thresholdCheck, listChecks, firstChecks, Outcome, accepted, refused, answeredBy, query}
 use Rattle.model.specs.Runs.{lastBin, pastBin, mostNumbers, runs}
 use Rattle.model.proofs.Enough.{room-enough}
 use Rattle.model.proofs.Tests.{lt-or-le, or-false}
@@ -252,7 +252,7 @@ door rs t h =
 
 runs-refused : (rs : List (List ℕ)) (t allowance : ℕ) (answers certificate : List ℕ) → Kept inputNumbers 0 rs → length answers ≡ answerRoom → length certificate ≡ certificateRoom
     → (n p a b d h : ℕ) → query (text.row rs) (text.endsFrom 0 rs) t allowance answers certificate .outcome ≡ refused n p a b d h → OfThese n ⊎ (n ≡ 7)
-unfolding query inputNumbers answerRoom certificateRoom
+unfolding query answeredBy inputNumbers answerRoom certificateRoom
 runs-refused rs t allowance answers certificate k e f n p a b d h o = go (firstChecks (text.row rs) (text.endsFrom 0 rs) t) refl
   where
     few : length (text.row rs) ≤ inputNumbers
@@ -265,9 +265,9 @@ runs-refused rs t allowance answers certificate k e f n p a b d h o = go (firstC
     bytes = omega (arith, k .few)
 
     go : (c : Check) → firstChecks (text.row rs) (text.endsFrom 0 rs) t ≡ c → OfThese n ⊎ (n ≡ 7)
-    go passed g = inr (room-enough (text.row rs) (text.endsFrom 0 rs) t allowance answers certificate (k .bins) room bytes g n p a b d h o)
+    go passed g = inr (room-enough (text.row rs) (text.endsFrom 0 rs) allowance answers certificate (k .bins) room bytes t g n p a b d h o)
     go (refusal m r) g =
-        let s : refused m r 0 0 0 0 ≡ refused n p a b d h = rw (g, query) at o in
+        let s : refused m r 0 0 0 0 ≡ refused n p a b d h = rw g at o in
         let i : m ≡ n = cc in
         inl (door rs t few .numbers n r (g ∙ ap (λ x. refusal x r) i))
 

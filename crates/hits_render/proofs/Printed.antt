@@ -14,7 +14,7 @@ use Rattle.model.proofs.FirstChecks.{first-passed, every-run}
 use Rattle.model.specs.Certificate.{Part, encode, Covers, TruePart}
 use Rattle.model.specs.Compared.{wholeCertificate}
 use Rattle.model.specs.Demands.{Fits, answersIn, partsIn, bytesIn, refusedBy, Certified}
-use Rattle.model.specs.Refusals.{Check, passed, refusal, firstChecks, accepted, refused, query}
+use Rattle.model.specs.Refusals.{Check, passed, refusal, firstChecks, accepted, refused, answeredBy, query}
 use Rattle.model.specs.Runs.{Run, pastBin, runs}
 use Rattle.hits_parts.specs.Parts.{partLines, partsHeld}
 use Rattle.hits_render.specs.Text.{doneLine, rendered}
@@ -45,7 +45,7 @@ pub accepted-prints : (numbers ends : List ℕ) (t allowance : ℕ) (answers cer
     → query numbers ends t allowance answers certificate .outcome ≡ accepted a n b d h
     → rendered (accepted a n b d h) (query numbers ends t allowance answers certificate .certificate)
     ≡ partLines (wholeCertificate t (runs numbers ends)) ++ doneLine a n d h
-unfolding query refusedBy partsIn answersIn bytesIn
+unfolding query answeredBy refusedBy partsIn answersIn bytesIn
 accepted-prints numbers ends t allowance answers certificate f a n b d h o = go (firstChecks numbers ends t) refl
   where
     go : (c : Check) → firstChecks numbers ends t ≡ c
@@ -56,5 +56,5 @@ accepted-prints numbers ends t allowance answers certificate f a n b d h o = go 
         certified-prints (runs numbers ends) t _ _ a n b d h (subst Narrow (every-run numbers ends) k)
         (rw o at (demand2 numbers ends t allowance answers certificate f .for-every e))
     go (refusal m p) e =
-        let s : refused m p 0 0 0 0 ≡ accepted a n b d h = rw (e, query) at o in
+        let s : refused m p 0 0 0 0 ≡ accepted a n b d h = rw e at o in
         absurd (let z : _≡_ {A = ℕ} 0 1 = cc in omega arith)

@@ -55,6 +55,7 @@ fn question(
     let end = walk_whole::question_walk(
         numbers,
         ends,
+        &ends[0..0],
         chosen,
         arith::usize_of_u32(threshold),
         answers,

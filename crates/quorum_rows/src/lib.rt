@@ -4,11 +4,14 @@ ghost use Rattle.query.specs.Outcomes.{outcomeIs};
 ghost use Rattle.quorum_rows.specs.Outcomes.{outcomeRow, writtenOf};
 use query::Outcome;
 
-// The parts that stand where a question is refused: none before the walk, and else the place.
+// The parts that stand where a question is refused: as many as the place tells where its walk is, by 5 to 7, and none before it.
 fn written(number: u8, place: usize) -> u64
     ensures { λ r. ⌜ r ≡ writtenOf number place ⌝ }
 {
     if number < 5 {
+        return 0;
+    }
+    if 7 < number {
         return 0;
     }
     arith::u64_of_usize(place)
