@@ -42,6 +42,16 @@ fn answers_in(part: Part) -> usize
     }
 }
 
+// A refusal's verdict.
+fn refused(number: u8, place: usize) -> Verdict
+    ensures { λ r. ⌜ verdictIs r ≡ invalid number place 0 0 ⌝ }
+{
+    Verdict::Invalid {
+        number: number,
+        place: place,
+    }
+}
+
 // Checks the parts one after another by the runs that the mask chooses; each field is settled before the next is read.
 fn check_parts(
     numbers: &[u32],
@@ -62,10 +72,7 @@ fn check_parts(
     let mut parts: usize = 0;
     while at < certificate.len() {
         let Field::Read { part, next } = field_read::read_field(certificate, at) else {
-            return Verdict::Invalid {
-                number: 8,
-                place: at,
-            };
+            return refused(8, at);
         };
         let number = check_part::check_part(
             numbers,
@@ -79,10 +86,7 @@ fn check_parts(
             part,
         );
         if number != 0 {
-            return Verdict::Invalid {
-                number: number,
-                place: at,
-            };
+            return refused(number, at);
         }
         bin = past(part);
         answers = answers + answers_in(part);
@@ -95,10 +99,7 @@ fn check_parts(
             parts: parts,
         };
     }
-    Verdict::Invalid {
-        number: 9,
-        place: at,
-    }
+    refused(9, at)
 }
 
 // The same from cursors that are not yet placed.
@@ -156,16 +157,6 @@ fn check_passed(
         &mut cursors[0..k],
         certificate,
     )
-}
-
-// A refusal by the first checks.
-fn refused(number: u8, place: usize) -> Verdict
-    ensures { λ r. ⌜ verdictIs r ≡ invalid number place 0 0 ⌝ }
-{
-    Verdict::Invalid {
-        number: number,
-        place: place,
-    }
 }
 
 // Whether a certificate, whoever wrote it, is true of the lists and the threshold: it covers the bins from 1 on in order, and each part is true of the runs that

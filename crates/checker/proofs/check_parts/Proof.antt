@@ -44,16 +44,21 @@ enum-known-part c = search needs
 enum-told : tie.Need-enum-told Inv-loop μ-loop
 enum-told c = search needs
 
+refused-requires : tie.Need-refused-requires Inv-loop μ-loop
+refused-requires c κs = search needs
+
 same-length : tie.Need-same-length Inv-loop μ-loop
-same-length c = kept (c .before .before .before .before)
+same-length c = kept (c .before .before .before .before .before)
 
 returns : tie.Need-returns Inv-loop μ-loop
 returns c =
-    let p = c .before .before .before .before in
+    let o = c .before in
+    let p = o .before .before .before .before in
     let a = start-of p .args in
     let l = p .loop in
-    let u = c .before .before .read-field in
-    along-unreadable (a .numbers .now) (a .ends .now) (a .weights .now) (a .mask) (a .threshold) (a .certificate .now) (l .cursors) (l .bin) (l .at) (l .answers) (l .parts) (l .inv .0) (omega arith) (u .result) (c .enum-told .given .1) (u .ensures .0)
+    let u = o .before .before .read-field in
+    c .refused .ensures
+    ∙ along-unreadable (a .numbers .now) (a .ends .now) (a .weights .now) (a .mask) (a .threshold) (a .certificate .now) (l .cursors) (l .bin) (l .at) (l .answers) (l .parts) (l .inv .0) (omega arith) (u .result) (o .enum-told .given .1) (u .ensures .0)
 
 check-part-requires : tie.Need-check-part-requires Inv-loop μ-loop
 check-part-requires c κs =
@@ -64,18 +69,23 @@ check-part-requires c κs =
 abbrev turn-of : tie.After-check-part Inv-loop μ-loop → tie.At-loop Inv-loop μ-loop
 turn-of c = c .before .before .before .before .before .before .before
 
+refused-requires-2 : tie.Need-refused-requires-2 Inv-loop μ-loop
+refused-requires-2 c κs = search needs
+
 same-length-2 : tie.Need-same-length-2 Inv-loop μ-loop
-same-length-2 c = let k = c .before .before .before in k .check-part .kept .1 .1 .1 .1 .1 .1 .0 ∙ kept (turn-of k)
+same-length-2 c = let k = c .before .before .before .before in k .check-part .kept .1 .1 .1 .1 .1 .1 .0 ∙ kept (turn-of k)
 
 returns-2 : tie.Need-returns-2 Inv-loop μ-loop
 returns-2 c =
-    let k = c .before .before .before in
+    let t = c .before in
+    let k = t .before .before .before in
     let p = turn-of k in
     let a = start-of p .args in
     let l = p .loop in
     let u = k .before .before .before .before .before .read-field in
     let g = k .before .before .before .part .given in
-    along-refused (a .numbers .now) (a .ends .now) (a .weights .now) (a .mask) (a .threshold) (a .certificate .now) (l .cursors) (l .bin) (l .at) (l .answers) (l .parts) (l .inv .0) (omega arith) (u .result) (g .0 .0) (g .0 .1 .0) (g .1) (u .ensures .0) _ (k .check-part .result) (k .check-part .ensures) (c .if1 .taken)
+    c .refused2 .ensures
+    ∙ along-refused (a .numbers .now) (a .ends .now) (a .weights .now) (a .mask) (a .threshold) (a .certificate .now) (l .cursors) (l .bin) (l .at) (l .answers) (l .parts) (l .inv .0) (omega (arith, k .before .before .before .before .before .before .loop-test .taken)) (u .result) (g .0 .0) (g .0 .1 .0) (g .1) (u .ensures .0) _ (k .check-part .result) (k .check-part .ensures) (t .if1 .taken)
 
 past-requires : tie.Need-past-requires Inv-loop μ-loop
 past-requires c κs = search needs
@@ -141,15 +151,19 @@ returns-3 c =
     let l = p .loop in
     along-valid (a .numbers .now) (a .ends .now) (a .weights .now) (a .mask) (a .threshold) (a .certificate .now) (l .cursors) (l .bin) (l .at) (l .answers) (l .parts) (l .inv .0) (omega arith) (c .if2 .taken)
 
+refused-requires-3 : tie.Need-refused-requires-3 Inv-loop μ-loop
+refused-requires-3 c κs = search needs
+
 same-length-4 : tie.Need-same-length-4 Inv-loop μ-loop
-same-length-4 c = kept (c .before .before)
+same-length-4 c = kept (c .before .before .before)
 
 returns-4 : tie.Need-returns-4 Inv-loop μ-loop
 returns-4 c =
-    let p = c .before .before in
+    let p = c .before .before .before in
     let a = start-of p .args in
     let l = p .loop in
-    along-uncovered (a .numbers .now) (a .ends .now) (a .weights .now) (a .mask) (a .threshold) (a .certificate .now) (l .cursors) (l .bin) (l .at) (l .answers) (l .parts) (l .inv .0) (omega arith) (c .if2 .left)
+    c .refused3 .ensures
+    ∙ along-uncovered (a .numbers .now) (a .ends .now) (a .weights .now) (a .mask) (a .threshold) (a .certificate .now) (l .cursors) (l .bin) (l .at) (l .answers) (l .parts) (l .inv .0) (omega arith) (c .before .if2 .left)
 
 pub check-parts-spec : {M : Type 1} → statement M
 check-parts-spec =
@@ -162,9 +176,11 @@ check-parts-spec =
     read-field-requires
     enum-known-part
     enum-told
+    refused-requires
     same-length
     returns
     check-part-requires
+    refused-requires-2
     same-length-2
     returns-2
     past-requires
@@ -175,5 +191,6 @@ check-parts-spec =
     loop-again
     same-length-3
     returns-3
+    refused-requires-3
     same-length-4
     returns-4)
