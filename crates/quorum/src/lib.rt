@@ -1,7 +1,7 @@
 // The C boundary, `include/quorum.h`: each call writes what it returns into a row of 64-bit numbers.
 ghost use mathlib.Core.Path.{_≡_};
 ghost use Rattle.model.specs.Many.{queryMany};
-ghost use Rattle.model.specs.Refusals.{query, check, checkChosen};
+ghost use Rattle.model.specs.Refusals.{query, queryWeighted, check, checkChosen, checkWeighted};
 ghost use Rattle.bound.specs.Bound.{probeBound, probeBoundChosen};
 ghost use Rattle.checker.specs.Verdicts.{verdictIs};
 ghost use Rattle.lcov_form.specs.Reading.{lcovRun};
@@ -64,6 +64,33 @@ pub extern "C" fn quorum_query(
 }
 
 #[no_mangle]
+pub extern "C" fn quorum_query_weighted(
+    numbers: &[u32],
+    ends: &[u32],
+    weights: &[u32],
+    wanted: u32,
+    allowance: u32,
+    answers: &mut [u32],
+    certificate: &mut [u8],
+    result: &mut [u64; 7],
+)
+    ensures row { λ r. ⌜ now (result .exit) ≡ outcomeRow (queryWeighted (now (numbers .entry)) (now (ends .entry)) (now (weights .entry)) wanted allowance (now (answers .entry)) (now (certificate .entry)) .outcome) ⌝ }
+    ensures answered { λ r. ⌜ now (answers .exit) ≡ queryWeighted (now (numbers .entry)) (now (ends .entry)) (now (weights .entry)) wanted allowance (now (answers .entry)) (now (certificate .entry)) .answers ⌝ }
+    ensures certified { λ r. ⌜ now (certificate .exit) ≡ queryWeighted (now (numbers .entry)) (now (ends .entry)) (now (weights .entry)) wanted allowance (now (answers .entry)) (now (certificate .entry)) .certificate ⌝ }
+{
+    let outcome = query::query_weighted(
+        numbers,
+        ends,
+        weights,
+        wanted,
+        allowance,
+        answers,
+        certificate,
+    );
+    quorum_rows::put_outcome(outcome, result);
+}
+
+#[no_mangle]
 pub extern "C" fn quorum_query_many(
     numbers: &[u32],
     ends: &[u32],
@@ -119,6 +146,21 @@ pub extern "C" fn quorum_check_chosen(
     ensures { λ r. ⌜ now (result .exit) ≡ verdictRow (checkChosen (now (numbers .entry)) (now (ends .entry)) mask threshold (now (certificate .entry))) ⌝ }
 {
     let verdict = checker::check_chosen(numbers, ends, mask, threshold, certificate);
+    put_verdict(verdict, result);
+}
+
+#[no_mangle]
+pub extern "C" fn quorum_check_weighted(
+    numbers: &[u32],
+    ends: &[u32],
+    weights: &[u32],
+    wanted: u32,
+    certificate: &[u8],
+    result: &mut [u64; 4],
+)
+    ensures { λ r. ⌜ now (result .exit) ≡ verdictRow (checkWeighted (now (numbers .entry)) (now (ends .entry)) (now (weights .entry)) wanted (now (certificate .entry))) ⌝ }
+{
+    let verdict = checker::check_weighted(numbers, ends, weights, wanted, certificate);
     put_verdict(verdict, result);
 }
 
