@@ -10,7 +10,6 @@ use mathlib.Core.Option.{Option, none, some}
 use mathlib.Core.Path.{_≡_, refl}
 use native.Mathlib.Omega.{arith}
 use Rattle.model.specs.Refusals.{Check, passed, refusal, _then_, refuseIf, refuseAt, fallsFrom, lastEnd, unrisenIn, countCheck, weightsCheck, thresholdCheck, maskCheck, listChecks}
-use Rattle.model.proofs.FirstChecks.{count-passed}
 use Rattle.model.specs.Runs.{mostNumbers, mostRuns}
 
 -- ---- checks in order
@@ -61,18 +60,11 @@ pub weights-pass : {o : Option ℕ} → o ≡ none → refuseAt 17 o ≡ passed
 unfolding refuseAt
 weights-pass h = rw h
 
--- a row of more weights than there can be runs is refused, or their number is
-pub long-row : (ends weights : List ℕ) (c : Check) → mostRuns < length weights
-    → (countCheck ends then weightsCheck (length ends) weights) ≡ ((countCheck ends then weightsCheck (length ends) weights) then c)
+-- a row of more weights than there can be runs is refused by its length
+pub long-row : (k : ℕ) (weights : List ℕ) (c : Check) → k ≤ mostRuns → mostRuns < length weights
+    → refuseIf (not (eqb (length weights) k)) 17 k ≡ (weightsCheck k weights then c)
 unfolding weightsCheck _then_
-long-row ends weights c h = go (countCheck ends) refl
-  where
-    go : (a : Check) → countCheck ends ≡ a → (a then weightsCheck (length ends) weights) ≡ ((a then weightsCheck (length ends) weights) then c)
-    go passed e =
-        let k = count-passed ends e .1 in
-        let n : length weights ≢ length ends = omega arith in
-        rw (other-length (length ends) (length weights) n)
-    go (refusal n p) e = refl
+long-row k weights c l h = let n : length weights ≢ k = omega arith in rw (other-length k (length weights) n)
 
 -- ---- 2
 

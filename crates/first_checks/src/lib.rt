@@ -7,7 +7,7 @@ ghost use Prim.Native.Nat.{_≤_};
 ghost use lib.Count.{ones};
 ghost use lib.Dec.{eqb};
 ghost use lib.ListN.{length};
-ghost use Rattle.model.specs.Refusals.{_then_, refuseIf, refuseAt, fallsFrom, lastEnd, unrisenIn, misweighed, countCheck, weightsCheck, thresholdCheck, maskCheck, listChecks, firstChecks, weightedChecks, chosenChecks};
+ghost use Rattle.model.specs.Refusals.{_then_, refuseIf, refuseAt, fallsFrom, lastEnd, unrisenIn, misweighed, countCheck, weightsCheck, thresholdCheck, sumOfWeights, maskCheck, listChecks, firstChecks, weightedChecks, chosenChecks};
 ghost use Rattle.model.specs.Runs.{mostRuns};
 ghost use Rattle.rising.specs.Found.{foundPlace};
 ghost use Rattle.first_checks.specs.Checked.{checkOf};
@@ -171,13 +171,21 @@ fn each_check(weights: &[u32]) -> Checked
     Checked::Passed
 }
 
-// Refusal 17: a row of weights for `k` runs.
-pub fn weights_check(k: usize, weights: &[u32]) -> Checked
-    ensures { λ r. ⌜ checkOf r ≡ weightsCheck k (now (weights .entry)) ⌝ }
+// Refusals 17 and 2: a row of weights for `k` runs, and a wanted weight over those.
+fn wanted_check(k: usize, weights: &[u32], wanted: usize) -> Checked
+    requires { ⌜ k ≤ mostRuns ⌝ }
+    ensures { λ r. ⌜ checkOf r ≡ (weightsCheck k (now (weights .entry)) then thresholdCheck (sumOfWeights (now (weights .entry))) wanted wanted) ⌝ }
 {
-    let row = length_check(k, weights.len());
+    let length = length_check(k, weights.len());
+    // a longer row is refused by now, however long it is
+    if limits::MOST_RUNS < weights.len() {
+        return length;
+    }
     let each = each_check(weights);
-    first_of(row, each)
+    let row = first_of(length, each);
+    let total = weights::sum(weights);
+    let enough = threshold_check(total, wanted, wanted);
+    first_of(row, enough)
 }
 
 // Refusals 13, at `index`, and 2, at `place`: a mask that chooses some of `k` runs, and a threshold over those.
@@ -254,15 +262,11 @@ pub fn chosen_checks(numbers: &[u32], ends: &[u32], mask: u64, threshold: u32) -
 pub fn weighted_checks(numbers: &[u32], ends: &[u32], weights: &[u32], wanted: u32) -> Checked
     ensures { λ r. ⌜ checkOf r ≡ weightedChecks (now (numbers .entry)) (now (ends .entry)) (now (weights .entry)) wanted ⌝ }
 {
-    let row = first_of(count_check(ends), weights_check(ends.len(), weights));
-    // such a row is refused by now, and its sum might not fit
-    if limits::MOST_RUNS < weights.len() {
-        return row;
-    }
-    let w = arith::usize_of_u32(wanted);
-    let total = weights::sum(weights);
-    let enough = threshold_check(total, w, w);
-    let met = first_of(row, enough);
+    let count = count_check(ends);
+    let Checked::Passed = count else {
+        return count;
+    };
+    let met = wanted_check(ends.len(), weights, arith::usize_of_u32(wanted));
     let Checked::Passed = met else {
         return met;
     };
