@@ -10,8 +10,8 @@ use native.Mathlib.Omega.{arith}
 use Rattle.bound.specs.declared.Bound.{Bound}
 use Rattle.bound.specs.declared.Bound.the-variants.{Sum}
 use Rattle.bound.specs.Bound.{probeBound, probeBoundChosen}
-use Rattle.bound.proofs.Runs.{bound-passed, chosen-bound-passed}
-use Rattle.model.proofs.Demands.{demand3}
+use Rattle.bound.proofs.Runs.{bound-passed, weighted-bound-passed, chosen-bound-passed}
+use Rattle.model.proofs.Demands.{demand3, weighted-demand3}
 use Rattle.model.proofs.Many.{sum-le}
 use Rattle.model.proofs.ManyChecks.{many-passed}
 use Rattle.model.proofs.ManyDemands.{many-demand3}
@@ -20,8 +20,8 @@ use Rattle.model.specs.Compared.{bound}
 use Rattle.model.specs.Demands.{Fits, refusedBy}
 use Rattle.model.specs.Many.{all-passed, manyChecks, queryMany}
 use Rattle.model.specs.ManyDemands.{callRefusedBy, runsOf, sumTo}
-use Rattle.model.specs.Refusals.{passed, firstChecks, query}
-use Rattle.model.specs.Runs.{pastBin, runs}
+use Rattle.model.specs.Refusals.{passed, firstChecks, weightedChecks, query, queryWeighted}
+use Rattle.model.specs.Runs.{pastBin, runs, weighted}
 
 -- what a call returns is not below b where it is a sum that is not
 not-below : (b s : ℕ) {r : Bound} → r ≡ Sum s → (sum : ℕ) × (r ≡ Sum sum) × (b ≤ sum) → b ≤ s
@@ -36,6 +36,14 @@ pub bound-enough : (numbers ends : List ℕ) (t allowance : ℕ) (answers certif
 bound-enough numbers ends t allowance answers certificate h e ps c s r l =
     demand3 numbers ends t allowance answers certificate h .for-every e ps c .enough
     (le-trans (not-below (bound (length ps) (runs numbers ends)) s r (bound-passed (length ps) t numbers ends e)) l)
+
+pub weighted-bound-enough : (numbers ends weights : List ℕ) (wanted allowance : ℕ) (answers certificate : List ℕ) → Fits pastBin numbers
+    → weightedChecks numbers ends weights wanted ≡ passed → (ps : List Part) → TrueCertificate (weighted weights (runs numbers ends)) wanted ps
+    → (s : ℕ) → probeBound ends (length ps) ≡ Sum s → s ≤ allowance → refusedBy (queryWeighted numbers ends weights wanted allowance answers certificate .outcome) ≢ 7
+weighted-bound-enough numbers ends weights wanted allowance answers certificate h e ps c s r l =
+    weighted-demand3 numbers ends weights wanted allowance answers certificate h .for-every e ps c .enough
+    (le-trans
+    (not-below (bound (length ps) (weighted weights (runs numbers ends))) s r (weighted-bound-passed (length ps) wanted numbers ends weights e)) l)
 
 pub many-bound-enough : (numbers ends masks thresholds : List ℕ) (allowance : ℕ) (answers certificate results : List ℕ) → Fits pastBin numbers
     → manyChecks numbers ends masks thresholds results ≡ all-passed → (ps : ℕ → List Part)

@@ -14,13 +14,14 @@ use Rattle.bound.specs.declared.Bound.the-variants.{Sum}
 use Rattle.model.specs.Compared.{boundOf, boundIn, bound}
 use Rattle.bound.specs.Bound.{sumFrom, every, named, orderChecks, endChecks, chosenEndChecks, boundBy, probeBound, probeBoundChosen}
 use Rattle.model.proofs.Chosen.{chosen-nil, chosen-in, chosen-out}
+use Rattle.model.proofs.Count.{total-map}
 use Rattle.model.proofs.Digits.{digits-mono}
 use Rattle.model.proofs.FirstChecks.{Listed, then-first, then-second, lists-passed, every-run}
 use Rattle.model.proofs.From.{from-length}
 use Rattle.model.proofs.Masks.{bit-of}
 use Rattle.model.proofs.Tests.{both}
-use Rattle.model.specs.Refusals.{passed, _then_, refuseIf, refuseAt, lastEnd, countCheck, maskCheck, firstChecks, chosenChecks}
-use Rattle.model.specs.Runs.{Run, firstBin, mostNumbers, slice, from, runsFrom, runs, total, one, bit, names, chosen}
+use Rattle.model.specs.Refusals.{passed, _then_, refuseIf, refuseAt, lastEnd, countCheck, maskCheck, firstChecks, weightedChecks, chosenChecks}
+use Rattle.model.specs.Runs.{Run, firstBin, mostNumbers, slice, from, runsFrom, runs, weightedRun, weighted, total, one, bit, names, chosen}
 
 -- ---- all runs
 
@@ -107,13 +108,32 @@ chosen-pieces m t numbers ends h =
     let r = then-second _ _ h in
     (then-first _ _ h, then-first _ _ r, lists-passed numbers ends (then-second _ _ (then-second _ _ r)))
 
--- For lists that pass the first checks the call returns a sum, and this is never smaller than the bound over the runs, which counts bins.
-pub bound-passed : (d t : ℕ) (numbers ends : List ℕ) → firstChecks numbers ends t ≡ passed
+weighted-pieces : (wanted : ℕ) (numbers ends weights : List ℕ) → weightedChecks numbers ends weights wanted ≡ passed → (countCheck ends ≡ passed) × Listed numbers ends
+unfolding weightedChecks
+weighted-pieces wanted numbers ends weights h =
+    (then-first _ _ h, lists-passed numbers ends (then-second _ _ (then-second _ _ (then-second _ _ h))))
+
+-- For lists that pass the first checks the call returns a sum, and this is never smaller than the bound over the runs, which counts bins, whatever they weigh.
+listed-bound : (d : ℕ) (numbers ends : List ℕ) → (countCheck ends ≡ passed) × Listed numbers ends
     → (sum : ℕ) × (probeBound ends d ≡ Sum sum) × (bound d (runs numbers ends) ≤ sum)
 unfolding probeBound endChecks boundBy _then_
-bound-passed d t numbers ends h =
-    let p = pieces t numbers ends h in
-    (sumFrom every d 0 0 ends, rw (p .0, order-passed numbers ends (p .1)), sum-bound d numbers ends)
+listed-bound d numbers ends p = (sumFrom every d 0 0 ends, rw (p .0, order-passed numbers ends (p .1)), sum-bound d numbers ends)
+
+pub bound-passed : (d t : ℕ) (numbers ends : List ℕ) → firstChecks numbers ends t ≡ passed
+    → (sum : ℕ) × (probeBound ends d ≡ Sum sum) × (bound d (runs numbers ends) ≤ sum)
+bound-passed d t numbers ends h = listed-bound d numbers ends (pieces t numbers ends h)
+
+weighted-same : (d : ℕ) (weights : List ℕ) (rs : List Run) → bound d (weighted weights rs) ≡ bound d rs
+unfolding bound boundIn weighted weightedRun
+weighted-same d weights rs = total-map (boundIn d) (weightedRun weights) rs
+
+pub weighted-bound-passed : (d wanted : ℕ) (numbers ends weights : List ℕ) → weightedChecks numbers ends weights wanted ≡ passed
+    → (sum : ℕ) × (probeBound ends d ≡ Sum sum) × (bound d (weighted weights (runs numbers ends)) ≤ sum)
+weighted-bound-passed d wanted numbers ends weights h =
+    let s = listed-bound d numbers ends (weighted-pieces wanted numbers ends weights h) in
+    let e = weighted-same d weights (runs numbers ends) in
+    let l = s .2 in
+    (s .0, s .1, omega arith)
 
 pub chosen-bound-passed : (d m t : ℕ) (numbers ends : List ℕ) → chosenChecks numbers ends m t ≡ passed
     → (sum : ℕ) × (probeBoundChosen ends m d ≡ Sum sum) × (bound d (chosen m (runs numbers ends)) ≤ sum)
