@@ -14,7 +14,7 @@ use Rattle.model.specs.Certificate.{Part, answer, gap}
 use Rattle.model.specs.Demands.{Fits}
 use Rattle.model.specs.Refusals.{Check, passed, refusal, _then_, refuseIf, refuseAt, fallsFrom, lastEnd, countCheck, thresholdCheck, listChecks, firstChecks, Outcome, accepted, refused, answeredBy, query}
 use Rattle.model.specs.Runs.{lastBin, pastBin, mostNumbers, runs}
-use Rattle.model.proofs.Enough.{room-enough}
+use Rattle.model.proofs.Enough.{Door, door-passed, door-then, door-if, door-at, room-enough}
 use Rattle.model.proofs.Tests.{lt-or-le, or-false}
 use Rattle.hits_input.specs.Input as text
 use Rattle.hits_limits.specs.Limits.{mostBytes, inputRuns, inputNumbers, answerRoom, certificateRoom}
@@ -207,27 +207,6 @@ parsed-runs failed input t x n m e =
 OfThese : ℕ → Type 0
 OfThese n = (n ≡ 1) ⊎ ((n ≡ 2) ⊎ (n ≡ 4))
 
-record Door (c : Check) : Type 0 where
-  numbers : (n p : ℕ) → c ≡ refusal n p → OfThese n
-
-door-passed : (c : Check) → c ≡ passed → Door c
-door-passed c e = record { numbers = λ n p q. absurd (let z : _≡_ {A = ℕ} 0 1 = cc in omega arith) }
-
-door-then : (a b : Check) → Door a → Door b → Door (a then b)
-unfolding _then_
-door-then passed b g h = h
-door-then (refusal n p) b g h = g
-
-door-if : (b : Bool) (n p : ℕ) → OfThese n → Door (refuseIf b n p)
-unfolding refuseIf
-door-if true n p h = record { numbers = λ m q e. (let i : n ≡ m = cc in subst OfThese i h) }
-door-if false n p h = door-passed passed refl
-
-door-at : (n : ℕ) (o : Option ℕ) → OfThese n → Door (refuseAt n o)
-unfolding refuseAt
-door-at n (some p) h = record { numbers = λ m q e. (let i : n ≡ m = cc in subst OfThese i h) }
-door-at n none h = door-passed passed refl
-
 none-falls : (o : Option ℕ) → o ≡ none → refuseAt 3 o ≡ passed
 unfolding refuseAt
 none-falls o e = rw (e, refuseAt)
@@ -238,15 +217,15 @@ none-left last count p e h =
     let l : count ≤ mostNumbers = omega arith in
     rw (eq-eqb last count e, le-ltb mostNumbers count l)
 
-door : (rs : List (List ℕ)) (t : ℕ) → length (text.row rs) ≤ inputNumbers → Door (firstChecks (text.row rs) (text.endsFrom 0 rs) t)
+door : (rs : List (List ℕ)) (t : ℕ) → length (text.row rs) ≤ inputNumbers → Door OfThese (firstChecks (text.row rs) (text.endsFrom 0 rs) t)
 unfolding firstChecks countCheck thresholdCheck listChecks OfThese
 door rs t h =
     let l : lastEnd 0 (text.endsFrom 0 rs) ≡ length (text.row rs) = let k = ends-last 0 rs in omega arith in
-    door-then _ _ (door-if _ 1 _ (inl refl))
-    (door-then _ _ (door-if _ 2 _ (inr (inl refl)))
-    (door-then _ _ (door-passed _ (none-falls (fallsFrom 0 0 (text.endsFrom 0 rs)) (ends-rise 0 0 rs)))
-    (door-then _ _ (door-passed _ (none-left (lastEnd 0 (text.endsFrom 0 rs)) (length (text.row rs)) (length (text.endsFrom 0 rs)) l h))
-    (door-at 4 _ (inr (inr refl))))))
+    door-then OfThese _ _ (door-if OfThese _ 1 _ (inl refl))
+    (door-then OfThese _ _ (door-if OfThese _ 2 _ (inr (inl refl)))
+    (door-then OfThese _ _ (door-passed OfThese _ (none-falls (fallsFrom 0 0 (text.endsFrom 0 rs)) (ends-rise 0 0 rs)))
+    (door-then OfThese _ _ (door-passed OfThese _ (none-left (lastEnd 0 (text.endsFrom 0 rs)) (length (text.row rs)) (length (text.endsFrom 0 rs)) l h))
+    (door-at OfThese 4 _ (inr (inr refl))))))
 
 -- ---- the laws
 

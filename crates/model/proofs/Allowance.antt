@@ -10,7 +10,7 @@ use native.Mathlib.Nat.{le-trans, mul-le-mul, mul-le-mul-left, mul-le-mul-right}
 use native.Mathlib.Omega.{arith}
 use Rattle.model.specs.Compared.{wholeWalk, probesIn, digits, boundOf, boundIn}
 use Rattle.model.specs.Demands.{Fits, refusedBy}
-use Rattle.model.specs.Refusals.{Check, passed, answeredBy, query, queryWeighted}
+use Rattle.model.specs.Refusals.{Check, passed, weightedChecks, answeredBy, query, queryWeighted}
 use Rattle.model.specs.Runs.{Run, pastBin, mostNumbers, runs, weighted, total}
 use Rattle.model.proofs.Demands.{whole-bound, never-spent}
 use Rattle.model.proofs.Digits.{digits-mono, digits-least}
@@ -82,16 +82,23 @@ module _ (numbers ends : List ℕ) (t allowance : ℕ) (answers certificate : Li
       (λ e. le-trans (lists-bound numbers ends (first-passed numbers ends t e .lists)) l)
 
 -- And so it is with weights.
-pub weighted-always-enough : (numbers ends weights : List ℕ) (wanted allowance : ℕ) (answers certificate : List ℕ) → Fits pastBin numbers
-    → 2 * mostNumbers * 21 ≤ allowance → refusedBy (queryWeighted numbers ends weights wanted allowance answers certificate .outcome) ≢ 7
-unfolding queryWeighted
-weighted-always-enough numbers ends weights wanted allowance answers certificate fits l =
-    allowance-enough-by _ (weighted weights (runs numbers ends)) wanted allowance answers certificate (weighted-not-spent numbers ends weights wanted)
-    (weighted-fit numbers ends weights wanted fits)
-    (λ e.
-    let p = weighted-passed numbers ends weights wanted e .lists in
-    let n = weighted-numbers numbers ends weights p in
-    le-trans (numbers-bound (length numbers) (weighted weights (runs numbers ends)) n) (le-trans (most-bound (length numbers) (p .few-numbers)) l))
+module _ (numbers ends weights : List ℕ) (wanted allowance : ℕ) (answers certificate : List ℕ) (fits : Fits pastBin numbers) where
+  weighted-enough-by : (weightedChecks numbers ends weights wanted ≡ passed → boundOf (length numbers) (length numbers) ≤ allowance)
+      → refusedBy (queryWeighted numbers ends weights wanted allowance answers certificate .outcome) ≢ 7
+  unfolding queryWeighted
+  weighted-enough-by l =
+      allowance-enough-by _ (weighted weights (runs numbers ends)) wanted allowance answers certificate (weighted-not-spent numbers ends weights wanted)
+      (weighted-fit numbers ends weights wanted fits)
+      (λ e.
+      let n = weighted-numbers numbers ends weights (weighted-passed numbers ends weights wanted e .lists) in
+      le-trans (numbers-bound (length numbers) (weighted weights (runs numbers ends)) n) (l e))
+
+  pub weighted-numbers-enough : boundOf (length numbers) (length numbers) ≤ allowance
+      → refusedBy (queryWeighted numbers ends weights wanted allowance answers certificate .outcome) ≢ 7
+  weighted-numbers-enough l = weighted-enough-by (λ e. l)
+
+  pub weighted-always-enough : 2 * mostNumbers * 21 ≤ allowance → refusedBy (queryWeighted numbers ends weights wanted allowance answers certificate .outcome) ≢ 7
+  weighted-always-enough l = weighted-enough-by (λ e. le-trans (most-bound (length numbers) (weighted-passed numbers ends weights wanted e .lists .few-numbers)) l)
 
 -- The largest allowance there is, 4294967295, is enough for every input.
 pub largest-enough : (numbers ends : List ℕ) (t : ℕ) (answers certificate : List ℕ) → Fits pastBin numbers

@@ -212,24 +212,27 @@ ended-roomy es (suc r) n p a b d h k o =
 
 -- ---- the first checks refuse by certain numbers
 
-record Door (by : ℕ → Type 0) (c : Check) : Type 0 where
-  numbers : (n p : ℕ) → c ≡ refusal n p → by n
+pub record Door (by : ℕ → Type 0) (c : Check) : Type 0 where
+  pub numbers : (n p : ℕ) → c ≡ refusal n p → by n
 
 module _ (by : ℕ → Type 0) where
-  door-then : (a b : Check) → Door by a → Door by b → Door by (a then b)
+  pub door-passed : (c : Check) → c ≡ passed → Door by c
+  door-passed c e = record { numbers = λ n p q. absurd (let z : _≡_ {A = ℕ} 0 1 = cc in omega arith) }
+
+  pub door-then : (a b : Check) → Door by a → Door by b → Door by (a then b)
   unfolding _then_
   door-then passed b g h = h
   door-then (refusal n p) b g h = g
 
-  door-if : (b : Bool) (n p : ℕ) → by n → Door by (refuseIf b n p)
+  pub door-if : (b : Bool) (n p : ℕ) → by n → Door by (refuseIf b n p)
   unfolding refuseIf
   door-if true n p h = record { numbers = λ m q e. let i : n ≡ m = cc in subst by i h }
-  door-if false n p h = record { numbers = λ m q e. absurd (let z : _≡_ {A = ℕ} 0 1 = cc in omega arith) }
+  door-if false n p h = door-passed passed refl
 
-  door-at : (n : ℕ) (o : Option ℕ) → by n → Door by (refuseAt n o)
+  pub door-at : (n : ℕ) (o : Option ℕ) → by n → Door by (refuseAt n o)
   unfolding refuseAt
   door-at n (some p) h = record { numbers = λ m q e. let i : n ≡ m = cc in subst by i h }
-  door-at n none h = record { numbers = λ m q e. absurd (let z : _≡_ {A = ℕ} 0 1 = cc in omega arith) }
+  door-at n none h = door-passed passed refl
 
   door-lists : (numbers ends : List ℕ) → by 3 → by 4 → Door by (listChecks numbers ends)
   unfolding listChecks

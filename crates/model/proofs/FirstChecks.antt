@@ -15,13 +15,14 @@ use mathlib.Core.Path.{_≡_, refl, sym, ap, _∙_, subst}
 use native.Mathlib.Nat.{div-eq-of-lt, div-lt-iff-lt-mul, one-mul}
 use native.Mathlib.Omega.{arith}
 use Rattle.model.specs.Demands.{Fits}
+use Rattle.model.specs.Plain.{Counted}
 use Rattle.model.specs.Refusals.{Check, passed, refusal, _then_, refuseIf, refuseAt, fallsFrom, lastEnd, unrisenIn, countCheck, misweighed, weightsCheck, thresholdCheck, sumOfWeights, listChecks, maskCheck, firstChecks, weightedChecks, chosenChecks}
 use Rattle.model.specs.Runs.{firstBin, pastBin, slice, from, runsFrom, runs, weighted, weightOfAll, chosen, unrisenAfter, unrisenRun, mostNumbers, mostRuns}
 use Rattle.model.specs.Rows.{Rise, rise-nil, rise-cons, Ordered, ordered-nil, ordered-cons}
 use Rattle.model.proofs.From.{from-pass, from-stop, from-nil}
 use Rattle.model.proofs.Masks.{Labelled, labelled-nil, labelled-cons, ascending}
 use Rattle.model.proofs.Chosen.{chosen-ascending, chosen-rising, chosen-all, ones-chosen}
-use Rattle.model.proofs.Plain.{all-plain, chosen-plain, plain-all}
+use Rattle.model.proofs.Plain.{all-plain, chosen-plain, plain-all, counted}
 use Rattle.model.proofs.Tests.{lt-or-le, or-false}
 use Rattle.model.proofs.Truth.{Fit}
 use Rattle.model.proofs.Walking.{Rising}
@@ -384,3 +385,11 @@ weighted-fit numbers ends weights wanted h e =
       some = p .threshold;
       met = omega arith;
     }
+
+-- Where no weights are given weights are numbers of runs, of all runs and of those that a mask chooses.
+pub runs-counted : (numbers ends : List ℕ) → Counted (runs numbers ends)
+runs-counted numbers ends = counted (all-plain numbers ends) (ascending (all-labelled numbers ends))
+
+pub chosen-counted : (m : ℕ) (numbers ends : List ℕ) → Counted (chosen m (runs numbers ends))
+chosen-counted m numbers ends =
+    counted (chosen-plain m (all-plain numbers ends)) (chosen-ascending m (runs numbers ends) (ascending (all-labelled numbers ends)))

@@ -21,6 +21,7 @@ pub mod ManyChecks
 pub mod ManyDemands
 pub mod ManyEnough
 pub mod Masks
+pub mod Ones
 pub mod Ordered
 pub mod Plain
 pub mod Quiet

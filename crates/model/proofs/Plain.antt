@@ -16,7 +16,7 @@ use Rattle.model.specs.Plain.{count, notAbove, Counted}
 use Rattle.model.specs.Rows.{Ordered, ordered-nil, ordered-cons}
 use Rattle.model.specs.Runs.{Run, runsFrom, runs, total, one, weightOf, weightOfAll, names, chosen}
 use Rattle.model.specs.Walk.{head}
-use Rattle.model.proofs.Chosen.{chosen-mem, chosen-ascending}
+use Rattle.model.proofs.Chosen.{chosen-mem}
 use Rattle.model.proofs.Count.{total-eq, weight-not}
 use Rattle.model.proofs.Heads.{Heads, atMost, enough-first}
 use Rattle.model.proofs.Masks.{Ascending, ones-names}
@@ -101,10 +101,3 @@ counted {rs} g l =
           (omega (arith, weigh v, same v, nth-enough hs o t (omega arith)))
           (λ h q. omega (arith, weigh h, same h, nth-least hs o t h (omega arith) q));
     }
-
--- It is so for all runs where no weights are given, and for those that a mask chooses.
-pub runs-counted : (numbers ends : List ℕ) → Ascending 0 (runs numbers ends) → Counted (runs numbers ends)
-runs-counted numbers ends l = counted (all-plain numbers ends) l
-
-pub chosen-counted : (m : ℕ) (numbers ends : List ℕ) → Ascending 0 (runs numbers ends) → Counted (chosen m (runs numbers ends))
-chosen-counted m numbers ends l = counted (chosen-plain m (all-plain numbers ends)) (chosen-ascending m (runs numbers ends) l)

@@ -51,8 +51,8 @@ abbrev pub TrueBytes : List Run → ℕ → List ℕ → Type 0
 TrueBytes rs t bytes = (ps : List Part) × TrueCertificate rs t ps × (bytes ≡ encode ps)
 
 -- Demand 2 for a walk, which a refusal of this number ended, 0 where none did, after so many parts, and which wrote these answers and bytes. When it reaches
--- its end, the answers are all the bins held by lists that weigh at least t, and no others, rising, each once. The certificate beside them is true. A walk that stops
--- early has written the first parts of that same certificate and their answers.
+-- its end, the answers are all the bins held by lists that weigh at least t, and no others, rising, each once. The certificate beside them is true. A walk that
+-- stops early has written the first parts of that same certificate and their answers.
 pub record Certified (rs : List Run) (t number parts : ℕ) (answers bytes : List ℕ) : Type 0 where
   pub exact : number ≡ 0 → Exact rs t answers
   pub is-true : number ≡ 0 → TrueBytes rs t bytes
@@ -91,4 +91,5 @@ pub record Bounded (rs : List Run) (t allowance : ℕ) (done : List Event) (numb
 -- and whatever allowance and buffers our walk is lent. The outcome and the certificate buffer after the call are the call's own.
 pub record Demand3 (c : Check) (rs : List Run) (t allowance : ℕ) (answers before : List ℕ) (o : Outcome) (after : List ℕ) : Type 0 where
   pub for-every : c ≡ passed → (ps : List Part) → TrueCertificate rs t ps
-      → Bounded rs t allowance (cutWalk t rs allowance (length answers) (length before) .events) (refusedBy o) (partsIn o) (doublingsMade o) (halvingsMade o) (take (bytesIn o) after) (length ps)
+      → Bounded rs t allowance (cutWalk t rs allowance (length answers) (length before) .events) (refusedBy o) (partsIn o) (doublingsMade o) (halvingsMade o)
+      (take (bytesIn o) after) (length ps)

@@ -64,6 +64,7 @@ weightsCheck k weights = refuseIf (not (eqb (length weights) k)) 17 k then refus
 unfoldable pub thresholdCheck : ℕ → ℕ → ℕ → Check
 thresholdCheck most t place = refuseIf (eqb t 0 || ltb most t) 2 place
 
+-- what all runs weigh together, by the row of their weights
 unfoldable pub sumOfWeights : List ℕ → ℕ
 sumOfWeights [] = 0
 sumOfWeights (w ∷ weights) = w + sumOfWeights weights
