@@ -3,7 +3,7 @@
 #   model/specs/Walk.antt   a file under crates/, or one from the top in crates/, docs/, examples/, include/, rust/ or scripts/
 #   walk/step_by_two        an edit, crates/walk/must-fail/step_by_two.edit
 #   walk::begin             a function of a crate
-#   tthHead                 a name declared in a file that the same paragraph, list item or table row names; a function names the sources of its crate. A row
+#   enoughHead              a name declared in a file that the same paragraph, list item or table row names; a function names the sources of its crate. A row
 #                           whose first cell is empty goes on with the row above
 #   specs/                  a folder from the top, or one that crates have
 # and otherwise code with a space, a dot or an operator in it, which is passed over.
