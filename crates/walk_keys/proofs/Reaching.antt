@@ -17,6 +17,7 @@ use Rattle.model.specs.Runs.{pastBin, one}
 use Rattle.model.proofs.Ordered.{ordered-head, ordered-tail}
 use Rattle.model.proofs.Tests.{lt-or-le, one-most}
 use Rattle.walk_keys.specs.Row.{nthHead, keyWeight, reachedHead, sumOf}
+use Rattle.walk_keys.proofs.Row.{member-at}
 
 -- ---- a key at a time
 
@@ -162,6 +163,11 @@ reached-nth (suc (suc t)) (k ∷ s) p l =
     let i = reached-nth (suc t) s (omega arith) (omega arith) in
     reached-further [] (suc (suc t)) k s q
     ∙ (ap (λ x. reachedHead [] x s) n ∙ (i ∙ (ap (λ x. getD s x 0 / 256) e₁ ∙ ap (λ x. getD (k ∷ s) x 0 / 256) (sym e₂))))
+
+-- the t-th head is a key's
+pub nth-key : (t : ℕ) (s : List ℕ) (v : ℕ) → 0 < t → t ≤ length s → v ≡ nthHead t s → (k : ℕ) × List·Memᴰ k s × (v ≡ k / 256)
+unfolding nthHead
+nth-key t s v p l e = (getD s (t - 1) 0, member-at s (t - 1) (omega arith), e)
 
 pub reached-past : (t : ℕ) (s : List ℕ) → length s < t → reachedHead [] t s ≡ pastBin
 reached-past t [] l = reached-nil [] t

@@ -2,7 +2,7 @@
 ghost use mathlib.Core.Path.{_≡_};
 ghost use Prim.Native.Nat.{_+_, _*_, _^_, _≤_, _<_};
 ghost use lib.ListN.{length, take, drop};
-ghost use Rattle.walk_keys.specs.Row.{belowCount, labelSum, Labels, nthHead, reachedHead, HaveWeights};
+ghost use Rattle.walk_keys.specs.Row.{belowCount, labelSum, Labels, nthHead, Reaches, HaveWeights};
 ghost use Rattle.model.specs.Runs.{maskBits};
 
 // A number above every key.
@@ -12,6 +12,12 @@ pub const NO_KEY: u64 = limits::PAST_BIN * 256;
 pub struct Below {
     pub count: usize,
     pub named: u64,
+}
+
+// The head up to which runs weigh enough, or that all of them weigh less.
+pub enum Reached {
+    Head(u64),
+    Past,
 }
 
 // The key of a run with this head.
@@ -29,10 +35,10 @@ fn nth_head(keys: &[u64], start: usize, t: usize) -> u64
     keys[start + (t - 1)] >> 8
 }
 
-// The head of the first key up to which the runs weigh at least `t`, by a row with a weight for each; or the number after the last bin where all weigh less.
-fn weighted_head(keys: &[u64], start: usize, weights: &[u32], t: usize) -> u64
+// The head of the first key up to which the runs weigh at least `t`, by a row with a weight for each.
+fn weighted_head(keys: &[u64], start: usize, weights: &[u32], t: usize) -> Reached
     requires { ⌜ (start ≤ length (now keys)) × (0 < length (now weights)) × HaveWeights (now weights) (drop start (now keys)) ⌝ }
-    ensures { λ r. ⌜ r ≡ reachedHead (now (weights .entry)) t (drop start (now (keys .entry))) ⌝ }
+    ensures { λ r. ⌜ Reaches (now (weights .entry)) t (drop start (now (keys .entry))) r ⌝ }
 {
     let mut missing = t;
     let mut i = start;
@@ -40,26 +46,26 @@ fn weighted_head(keys: &[u64], start: usize, weights: &[u32], t: usize) -> u64
         let key = keys[i];
         let weight = arith::usize_of_u32(weights[(key & 255) as usize]);
         if missing <= weight {
-            return key >> 8;
+            return Reached::Head(key >> 8);
         }
         missing -= weight;
         i += 1;
     }
-    limits::PAST_BIN
+    Reached::Past
 }
 
 // The same where a row without weights stands for runs that weigh 1 each: then it is the t-th key, and the row need not be gone through.
-pub fn reached_head(keys: &[u64], start: usize, weights: &[u32], t: usize) -> u64
+pub fn reached_head(keys: &[u64], start: usize, weights: &[u32], t: usize) -> Reached
     requires { ⌜ (0 < t) × (start ≤ length (now keys)) × HaveWeights (now weights) (drop start (now keys)) ⌝ }
-    ensures { λ r. ⌜ r ≡ reachedHead (now (weights .entry)) t (drop start (now (keys .entry))) ⌝ }
+    ensures { λ r. ⌜ Reaches (now (weights .entry)) t (drop start (now (keys .entry))) r ⌝ }
 {
     if 0 < weights.len() {
         return weighted_head(keys, start, weights, t);
     }
     if keys.len() - start < t {
-        return limits::PAST_BIN;
+        return Reached::Past;
     }
-    nth_head(keys, start, t)
+    Reached::Head(nth_head(keys, start, t))
 }
 
 // The keys of the row that are below `limit`: how many, and the mask of their runs.

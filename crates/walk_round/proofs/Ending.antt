@@ -4,17 +4,18 @@ use Prim.Native.Nat.{ℕ, _-_, _/_, _≤_, _<_}
 use lib.Dec.{ltb}
 use lib.ListN.{length, drop}
 use mathlib.Core.List.{List, [], _∷_, List·Memᴰ}
-use mathlib.Core.Logic.{⊎-elim, _≢_}
+use mathlib.Core.Logic.{⊎-elim}
 use mathlib.Core.Path.{_≡_, sym, ap, _∙_, subst}
 use native.Mathlib.Omega.{arith}
 use Rattle.model.specs.Certificate.{gap}
 use Rattle.model.specs.Runs.{Run, lastBin, pastBin, weightOfAll, mask, maskOfAll, mostRuns}
 use Rattle.model.specs.Walk.{wrote, head, enoughHead, round, walk}
 use Rattle.model.specs.Rows.{below}
-use Rattle.model.proofs.Heads.{Heads, enough-past, enough-none}
+use Rattle.model.proofs.Heads.{Heads, enough-none}
 use Rattle.model.proofs.Masks.{Ascending}
 use Rattle.model.proofs.Tests.{lt-or-le}
-use Rattle.walk_keys.specs.Row.{noKey, labelSum, reachedHead, HaveWeights}
+use Rattle.walk_keys.specs.Row.{noKey, labelSum, reachedHead, Reaches, HaveWeights}
+use Rattle.walk_keys.specs.declared.Reached.the-variants.{Head}
 use Rattle.walk_progress.proofs.Progress.{onward-end}
 use Rattle.walk_tally.specs.Tally.{undoubled}
 use Rattle.walk_write.specs.Writes.{countsOf, goesOn, endsWith, Fitted, LastReady, LastGap}
@@ -120,20 +121,22 @@ module _ (numbers ends ws positions keys A B : List ℕ) (m t : ℕ) (w : State)
       )
 
   -- a head that is reached is a bin
-  pub head-bin : reachedHead ws t row ≢ pastBin → reachedHead ws t row < pastBin
-  head-bin h = let e = reached in let l = enough-past t cs in omega arith
+  module _ (v : ℕ) (r : Reaches ws t row (Head v)) where
+    head-bin : v < pastBin
+    head-bin = let k = r .1 in let b = bins (k .0) (k .1) in omega (arith, k .2)
 
-  pub head-fits : reachedHead ws t row ≢ pastBin → reachedHead ws t row < 4294967296
-  head-fits h = let b = head-bin h in let e = past-is in omega arith
+    pub head-fits : v < 4294967296
+    head-fits = let b = head-bin in let e = past-is in omega arith
 
-  pub advances : reachedHead ws t row ≢ pastBin → Advances m numbers ends ws positions t (reachedHead ws t row)
-  advances h =
-      record {
-        bin = head-bin h;
-        left =
-            ⊎-elim
-            (λ (q : below pastBin cs < t). absurd (h (reached ∙ enough-none t cs heads (s .some) met .1 q)))
-            (λ (q : t ≤ below pastBin cs). q)
-            (lt-or-le (below pastBin cs) t);
-        least = sym reached;
-      }
+    pub advances : Advances m numbers ends ws positions t v
+    advances =
+        let e = sym reached ∙ r .0 in
+        record {
+          bin = head-bin;
+          left =
+              ⊎-elim
+              (λ (q : below pastBin cs < t). let p = enough-none t cs heads (s .some) met .1 q in let b = head-bin in absurd (omega arith))
+              (λ (q : t ≤ below pastBin cs). q)
+              (lt-or-le (below pastBin cs) t);
+          least = e;
+        }

@@ -5,6 +5,7 @@ ghost use Rattle.walk_state.specs.State.{chosenAt};
 ghost use Rattle.walk_write.specs.Writes.{Fitted};
 ghost use Rattle.walk_settle.specs.Turns.{Stands, Chooses, Goes};
 ghost use Rattle.walk_advance.specs.Advances.{Raises};
+use walk_keys::Reached;
 use walk_write::State;
 use walk_write::Turn;
 
@@ -25,10 +26,9 @@ pub fn round(
     ensures goes { λ r. ⌜ Goes (λ n. round (walk n threshold) threshold (w .floor) (chosenAt (now (weights .entry)) chosen (now (numbers .entry)) (now (positions .entry)) (now (ends .entry)))) chosen (now (numbers .entry)) (now (ends .entry)) (now (weights .entry)) threshold w (now (answers .entry)) (now (certificate .entry)) (now (positions .exit)) (now (keys .exit)) (now (answers .exit)) (now (certificate .exit)) r ⌝ }
     ensures raises { λ r. ⌜ Raises (w .floor) r ⌝ }
 {
-    let v = walk_keys::reached_head(keys, w.start, weights, threshold);
-    if v == limits::PAST_BIN {
+    let Reached::Head(v) = walk_keys::reached_head(keys, w.start, weights, threshold) else {
         return walk_write::last_gap(chosen, keys, certificate, w);
-    }
+    };
     walk_advance::advance(
         numbers,
         ends,

@@ -4,10 +4,9 @@ use lib.ListN.{drop, length-drop}
 use mathlib.Core.List.{[]}
 use mathlib.Core.Path.{_≡_, sym, ap, _∙_}
 use native.Mathlib.Omega.{arith}
-use Rattle.model.specs.Runs.{pastBin}
 use Rattle.weights.proofs.Named.{no-weights}
 use Rattle.walk_keys.specs.Row.{reachedHead}
-use Rattle.walk_keys.proofs.Reaching.{reached-nth, reached-past}
+use Rattle.walk_keys.proofs.Reaching.{nth-key, reached-nth, reached-past}
 use Rattle.walk_keys.proofs.reached_head.Statement.{statement}
 use Rattle.walk_keys.proofs.reached_head.Tie as tie
 
@@ -25,13 +24,12 @@ none-given : (c : tie.Else1) → c .before .before .before .args .weights .now �
 none-given c = no-weights (c .before .before .before .args .weights .now) (omega (arith, c .if1 .left))
 
 returns-2 : tie.Need-returns-2
-unfolding pastBin
 returns-2 c =
     let e = c .before in
     let a = e .before .before .before .args in
     let d = length-drop (a .start) (a .keys .now) in
     let n = none-given e in
-    sym (ap (λ w. reachedHead w (a .t) (drop (a .start) (a .keys .now))) n ∙ reached-past (a .t) (drop (a .start) (a .keys .now)) (omega (arith, c .if2 .taken)))
+    ap (λ w. reachedHead w (a .t) (drop (a .start) (a .keys .now))) n ∙ reached-past (a .t) (drop (a .start) (a .keys .now)) (omega (arith, c .if2 .taken))
 
 nth-head-requires : tie.Need-nth-head-requires
 nth-head-requires c κs = search needs
@@ -43,9 +41,11 @@ returns-3 c =
     let a = s .args in
     let d = length-drop (a .start) (a .keys .now) in
     let n = none-given (o .before) in
-    c .nth-head .ensures
-    ∙ sym (ap (λ w. reachedHead w (a .t) (drop (a .start) (a .keys .now))) n
-    ∙ reached-nth (a .t) (drop (a .start) (a .keys .now)) (s .pre .0) (omega (arith, o .if2 .left)))
+    let e = c .nth-head .ensures in (
+      ap (λ w. reachedHead w (a .t) (drop (a .start) (a .keys .now))) n
+          ∙ (reached-nth (a .t) (drop (a .start) (a .keys .now)) (s .pre .0) (omega (arith, o .if2 .left)) ∙ sym e),
+      nth-key (a .t) (drop (a .start) (a .keys .now)) (c .nth-head .result) (s .pre .0) (omega (arith, o .if2 .left)) e,
+    )
 
 pub reached-head-spec : {M : Type 1} → statement M
 reached-head-spec =

@@ -3,15 +3,14 @@
 use Prim.Native.Nat.{ℕ, _+_, _-_, _≤_, _<_}
 use borrow.Author.Needs.{needs}
 use lib.Bits.{bitAnd, and-mask}
-use lib.ListN.{length, getD, drop, length-drop}
+use lib.ListN.{length, getD, drop}
 use mathlib.Core.List.{List}
 use mathlib.Core.Path.{_≡_, refl, sym, ap, _∙_}
 use native.Mathlib.Omega.{arith}
 use Rattle.weights.proofs.Named.{weight-at}
 use Rattle.walk_keys.specs.Row.{keyWeight, reachedHead, HaveWeights}
-use Rattle.walk_keys.proofs.Laws.{row-at}
+use Rattle.walk_keys.proofs.Laws.{member-from}
 use Rattle.walk_keys.proofs.Reaching.{reached-at, reached-on, reached-end}
-use Rattle.walk_keys.proofs.Row.{member-at}
 use Rattle.walk_keys.proofs.weighted_head.Statement.{statement}
 use Rattle.walk_keys.proofs.weighted_head.Tie as tie
 
@@ -39,8 +38,7 @@ shared-slice-read-key c = search needs
 run-within : (keys : List ℕ) (start : ℕ) (weights : List ℕ) (i : ℕ) → HaveWeights weights (drop start keys) → 0 < length weights → start ≤ i → i < length keys
     → bitAnd (getD keys i 0) 255 < length weights
 run-within keys start weights i h p l k =
-    let r : i - start < length (drop start keys) = simp length-drop (omega arith) in
-    rw (and-mask (getD keys i 0) 8, ← (row-at keys start i l)) (h .each p _ (member-at (drop start keys) (i - start) r))
+    rw (and-mask (getD keys i 0) 8) (h .each p _ (member-from keys start i l k))
 
 -- the places before: the loop's turn and the start
 abbrev start-of : tie.After-shared-slice-known3 Inv-loop μ-loop → tie.Start Inv-loop μ-loop
@@ -84,8 +82,10 @@ returns c =
     let u = c .before in
     let l = u .before .before .before .before in
     let a = start-of (u .before .before) .args in
-    let w = read-weight u in
-    sym (l .loop .inv .same ∙ reached-at (a .weights .now) (l .loop .missing) (a .keys .now) (l .loop .i) (omega arith) (omega (arith, c .if1 .taken)))
+    let w = read-weight u in (
+      l .loop .inv .same ∙ reached-at (a .weights .now) (l .loop .missing) (a .keys .now) (l .loop .i) (omega arith) (omega (arith, c .if1 .taken)),
+      (getD (a .keys .now) (l .loop .i) 0, member-from (a .keys .now) (a .start) (l .loop .i) (l .loop .inv .low) (omega arith), refl),
+    )
 
 sub-missing : tie.Need-sub-missing Inv-loop μ-loop
 sub-missing c = search needs
@@ -112,11 +112,10 @@ loop-again c =
     }
 
 returns-2 : tie.Need-returns-2 Inv-loop μ-loop
-unfolding Rattle.model.specs.Runs.pastBin
 returns-2 c =
     let l = c .before in
     let a = l .before .before .before .args in
-    sym (l .loop .inv .same ∙ reached-end (a .weights .now) (l .loop .missing) (a .keys .now) (l .loop .i) (omega arith))
+    l .loop .inv .same ∙ reached-end (a .weights .now) (l .loop .missing) (a .keys .now) (l .loop .i) (omega arith)
 
 pub weighted-head-spec : {M : Type 1} → statement M
 weighted-head-spec =
