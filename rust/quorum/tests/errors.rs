@@ -93,10 +93,10 @@ fn texts_of_refusals() {
         let ground = text.strip_prefix(&format!("refusal {number} at 17: "));
         ground.map(str::to_string).expect("number and place")
     };
-    let known = (1..=16).filter(|&number| number != 12);
+    let known = (1..=17).filter(|&number| number != 12);
     let grounds: BTreeSet<String> = known.map(ground).collect();
-    assert_eq!(grounds.len(), 15);
-    for number in [0, 12, 17, u64::MAX] {
+    assert_eq!(grounds.len(), 16);
+    for number in [0, 12, 18, u64::MAX] {
         assert_eq!(ground(number), "an unknown ground");
     }
     assert!(!grounds.contains("an unknown ground"));
