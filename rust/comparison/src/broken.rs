@@ -27,11 +27,14 @@ pub fn any_wanted(random: &mut Random, k: usize, weighted: bool) -> Wanted {
     }
 }
 
-/// The same with weights that are broken, in half of the cases that have weights.
+/// The same with weights that are broken in one or two ways, in half of the cases
+/// that have weights.
 pub fn any_broken(random: &mut Random, k: usize, weighted: bool) -> Wanted {
     let mut wanted = any_wanted(random, k, weighted);
     if let (Some(weights), true) = (&mut wanted.weights, random.one_in(2)) {
-        break_weights(random, weights);
+        for _ in 0..random.from_to(1, 2) {
+            break_weights(random, weights);
+        }
     }
     wanted
 }
