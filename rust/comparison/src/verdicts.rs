@@ -7,7 +7,7 @@ use crate::met::Refusals;
 use crate::question::{walk_of, Question};
 use crate::shapes::any_runs;
 use quorum::{Checked, Refusal};
-use reference::testing::{lay_out, slices, Random, Wanted};
+use reference::testing::{gap, hit, lay_out, slices, Random, Wanted, M};
 use reference::{all_runs, check_by, decode, encode, is_true_by, Part, Verdict, Weighting};
 
 /// What counts in a random check.
@@ -99,6 +99,40 @@ impl Seen {
             _ => (),
         }
         number
+    }
+
+    /// Compares a certificate with each byte set to each value, cut at each place,
+    /// with a piece of it once more, and with a byte left out.
+    pub fn compare_every_byte(&mut self, task: Task, whole: &[u8]) {
+        for place in 0..whole.len() {
+            for value in 0..=255 {
+                let mut bytes = whole.to_vec();
+                bytes[place] = value;
+                self.compare_with_truth(0, task, &bytes);
+            }
+            self.compare_with_truth(0, task, &whole[..place]);
+            self.compare_with_truth(0, task, &[whole, &whole[..=place]].concat());
+            self.compare_with_truth(0, task, &[&whole[..place], &whole[place + 1..]].concat());
+        }
+    }
+
+    /// Compares gaps and answers about numbers from 5 to 10 with every mask of four
+    /// runs, and with some that name runs beyond those.
+    pub fn compare_every_mask(&mut self, task: Task) {
+        for mask in (0..16).chain([1 << 63, u64::MAX, 7 | 1 << 62]) {
+            for value in [6, 7, 8, 9] {
+                let parts = [
+                    gap(1, value - 1, task.chosen()),
+                    hit(value, mask),
+                    gap(value + 1, M, mask),
+                ];
+                for kept in 1..=3 {
+                    self.compare_with_truth(0, task, &encode(&parts[..kept]));
+                }
+                let joined = [gap(1, value, mask), parts[2]];
+                self.compare_with_truth(0, task, &encode(&joined));
+            }
+        }
     }
 
     /// Compares a true certificate, what it becomes when it covers 0 too, and

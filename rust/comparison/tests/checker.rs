@@ -82,24 +82,13 @@ fn long_runs() {
     compare_random(44, 60, [1, 4], 300, [50, 50]);
 }
 
-/// The true certificates of three runs, without weights and with them, with each
-/// byte set to each value.
+/// The true certificates of three runs, without weights and with them.
 #[test]
 fn every_byte() {
     for wanted in [Wanted::plain(2), Wanted::weighted(&[3, 1, 1], 3)] {
         let task = Task::wanting(&THREE_RUNS, &wanted);
-        let whole = encode(&walks_own(task));
         let mut seen = Seen::default();
-        for place in 0..whole.len() {
-            for value in 0..=255 {
-                let mut bytes = whole.clone();
-                bytes[place] = value;
-                seen.compare_with_truth(0, task, &bytes);
-            }
-            seen.compare_with_truth(0, task, &whole[..place]);
-            seen.compare_with_truth(0, task, &[&whole[..], &whole[..=place]].concat());
-            seen.compare_with_truth(0, task, &[&whole[..place], &whole[place + 1..]].concat());
-        }
+        seen.compare_every_byte(task, &encode(&walks_own(task)));
         seen.met(&[0, 8, 9, 10, 11], 50);
     }
 }
@@ -171,8 +160,7 @@ fn most_numbers() {
     assert_eq!(seen.refusals[0], 18);
 }
 
-/// Every mask of three runs, in a gap and in an answer, with every threshold, and
-/// with every wanted weight of some weights.
+/// With every threshold, and with every wanted weight of some weights.
 #[test]
 fn every_mask() {
     let mut seen = Seen::default();
@@ -182,24 +170,9 @@ fn every_mask() {
         all.extend((1..=weights.iter().sum()).map(|wanted| Wanted::weighted(&weights, wanted)));
     }
     for wanted in &all {
-        let task = Task::wanting(&runs, wanted);
-        for mask in (0..16).chain([1 << 63, u64::MAX, 7 | 1 << 62]) {
-            let all = 7;
-            for value in [6, 7, 8, 9] {
-                let parts = [
-                    gap(1, value - 1, all),
-                    hit(value, mask),
-                    gap(value + 1, M, mask),
-                ];
-                for kept in 1..=3 {
-                    seen.compare_with_truth(0, task, &encode(&parts[..kept]));
-                }
-                let joined = [gap(1, value, mask), parts[2]];
-                seen.compare_with_truth(0, task, &encode(&joined));
-            }
-        }
+        seen.compare_every_mask(Task::wanting(&runs, wanted));
     }
-    seen.met(&[9, 10, 11], 10);
+    seen.met(&[9, 10, 11], 100);
 }
 
 #[test]

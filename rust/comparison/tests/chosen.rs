@@ -9,8 +9,7 @@ use comparison::seeds;
 use comparison::shapes::any_runs;
 use comparison::verdicts::{self, walks_own, Kind, Seen};
 use reference::testing::{
-    chosen_instances, gap, hit, lay_out, marked_three_runs, slices, Random, FIRST_TWO_PARTS, M,
-    THREE_RUNS,
+    chosen_instances, lay_out, marked_three_runs, slices, Random, FIRST_TWO_PARTS, THREE_RUNS,
 };
 use reference::{all_runs, encode};
 
@@ -116,48 +115,26 @@ fn first_checks() {
     seen.met(&[0, 1, 2, 3, 4, 9, 10, 11, 13], 50);
 }
 
-/// Every choice of three runs with every mask of a gap and of an answer.
+/// With every choice of three runs and every threshold.
 #[test]
 fn every_mask() {
     let mut seen = Seen::default();
     let runs: [&[u32]; 3] = [&[7], &[7, 8], &[8]];
     for chosen in 1..=all_runs(3) {
         for threshold in 1..=chosen.count_ones() {
-            let task = Task::of_chosen(&runs, chosen, threshold);
-            for mask in (0..16).chain([1 << 63, u64::MAX, 7 | 1 << 62]) {
-                for value in [6, 7, 8, 9] {
-                    let parts = [
-                        gap(1, value - 1, chosen),
-                        hit(value, mask),
-                        gap(value + 1, M, mask),
-                    ];
-                    for kept in 1..=3 {
-                        seen.compare_with_truth(0, task, &encode(&parts[..kept]));
-                    }
-                    let joined = [gap(1, value, mask), parts[2]];
-                    seen.compare_with_truth(0, task, &encode(&joined));
-                }
-            }
+            seen.compare_every_mask(Task::of_chosen(&runs, chosen, threshold));
         }
     }
     seen.met(&[9, 10, 11], 100);
 }
 
-/// The certificate of the first two of three runs with each byte set to each
-/// value.
+/// The certificate of the first two of three runs.
 #[test]
 fn every_byte() {
     let task = Task::of_chosen(&THREE_RUNS, 3, 2);
     let whole = encode(&FIRST_TWO_PARTS);
     assert_eq!(whole, encode(&walks_own(task)));
     let mut seen = Seen::default();
-    for place in 0..whole.len() {
-        for value in 0..=255 {
-            let mut bytes = whole.clone();
-            bytes[place] = value;
-            seen.compare_with_truth(0, task, &bytes);
-        }
-        seen.compare_with_truth(0, task, &whole[..place]);
-    }
+    seen.compare_every_byte(task, &whole);
     seen.met(&[0, 8, 9, 10, 11], 20);
 }
