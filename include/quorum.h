@@ -85,8 +85,8 @@ extern "C" {
 /**
  * Room that is always enough for n numbers, with weights or without: with so many
  * answers and certificate bytes refusals 5 and 6 never occur. (Proved:
- * `room-enough`.) Many questions in one call need at most this for each of them.
- * (Proved: `many-room-enough`.)
+ * `room-enough`, `weighted-room-enough`.) Many questions in one call need at most
+ * this for each of them. (Proved: `many-room-enough`.)
  */
 #define QUORUM_ENOUGH_ANSWERS(n) ((size_t)(n))
 #define QUORUM_ENOUGH_BYTES(n) (34 * (size_t)(n) + 19)
@@ -97,9 +97,10 @@ extern "C" {
 /**
  * An allowance of probes that is always enough, with weights or without:
  * 2 * 1048576 * 21. With it, or any larger one, refusal 7 never occurs. (Proved:
- * `always-enough`.) For n numbers in all, b being the binary digits of n, 2 * n * b
- * is enough too (`numbers-enough`). Many questions in one call need at most this for
- * each of them. (Proved: `many-always-enough`.)
+ * `always-enough`, `weighted-always-enough`.) Without weights 2 * n * b is enough
+ * too, for n numbers in all, b being the binary digits of n (`numbers-enough`). Many
+ * questions in one call need at most this for each of them. (Proved:
+ * `many-always-enough`.)
  */
 #define QUORUM_ENOUGH_PROBES 44040192u
 
@@ -302,8 +303,9 @@ void quorum_query(const uint32_t *numbers, size_t numbers_len,
  * it is, and so does QUORUM_ENOUGH_PROBES.
  *
  * Cost: as quorum_query, and in each round the weights of the runs that stand
- * lowest are added up until they are enough. The certificate has the fewest parts
- * of all that are true for these weights.
+ * lowest are added up until they are enough, and then those of the runs that hold
+ * the bin so found. The certificate has the fewest parts of all that are true for
+ * these weights.
  *
  * Example, after the one above: the first run counts for three and a weight of three
  * is wanted, so that it is enough by itself, and all of its bins are answers.
@@ -438,7 +440,7 @@ void quorum_check_chosen(const uint32_t *numbers, size_t numbers_len,
  * both 0 on a refusal, as quorum_check. A certificate that begins at bin 0 is
  * refusal 9 at place 0 here too.
  *
- * Cost: as quorum_check.
+ * Cost: as quorum_check, and one step more for each run that a part names.
  *
  * Example, after those above: the certificate of the question with weights; then
  * the same for a wanted weight of 4, for which run 0 alone, named by the second part,

@@ -33,7 +33,7 @@ use crate::{checked, ffi, queried, Checked, Counts, Refusal, Stopped};
 /// then, in a run whose number of bins has b binary digits, at most 2 × d × b probes,
 /// d being the parts of any certificate that is true for these weights. In each
 /// round the weights of the runs that stand lowest are added up until they are
-/// enough.
+/// enough, and then those of the runs that hold the bin so found.
 ///
 /// # Example
 ///
@@ -116,8 +116,9 @@ pub fn query_weighted(
 ///
 /// # Cost
 ///
-/// As [`check()`](crate::check()): one pass over `numbers` for the first checks, then
-/// at most one more and parts × runs steps.
+/// As [`check()`](crate::check()), one pass over `numbers` for the first checks, then
+/// at most one more and parts × runs steps; and one step more for each run that a
+/// part names.
 ///
 /// # Example
 ///

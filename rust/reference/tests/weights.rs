@@ -56,6 +56,8 @@ fn the_order_of_the_first_checks() {
     refused(&numbers, &ends, &[255, 1], 256, 3, 1);
     refused(&numbers, &[1, 3], &[255, 1], 256, 3, 2);
     refused(&numbers, &[2, 4], &[255, 1], 256, 4, 1);
+    refused(&[5, 5], &[3, 2], &[1, 1], 3, 2, 3);
+    refused(&[5, 5], &[3, 2], &[1, 1], 2, 3, 1);
     let (outcome, answers, _) = ask_for(
         &[[3, 9], [7, 9]],
         &Wanted::weighted(&[255, 1], 256),

@@ -180,6 +180,22 @@ pub(super) fn instances() -> Vec<Instance> {
             accepted(2, 6, 106, [3, 0]),
         ),
         weighted(
+            "three runs of weight 1, one probe short",
+            &THREE_RUNS,
+            &[1, 1, 1],
+            (2, 2),
+            &THREE_RUNS_PARTS[..4],
+            refused(7, 4, 1, 72, [2, 0]),
+        ),
+        weighted(
+            "three runs of the largest weight, more than one of them",
+            &THREE_RUNS,
+            &[255, 255, 255],
+            (256, 3),
+            &THREE_RUNS_PARTS,
+            accepted(2, 6, 106, [3, 0]),
+        ),
+        weighted(
             "the heaviest, or the others together",
             &rising,
             &[1, 2, 3],
@@ -301,12 +317,15 @@ fn refusals() -> Vec<Instance> {
         ),
         refused("the last of three weights", &three, &[255, 1, 0], 1, 17, 2),
         refused("the length before the weights", &two, &[0], 1, 17, 2),
+        refused("three weights, one of them 0", &two, &[0, 1, 1], 1, 17, 2),
         refused("the length first", &two, &[1, 1, 0], 1, 17, 2),
         refused("17 before 2", &two, &[0, 1], 0, 17, 0),
         refused("the length before 2", &two, &[1, 1, 1], 4, 17, 2),
         refused("17 before 4", &broken, &[1, 256], 1, 17, 1),
         refused("2 before 4", &broken, &[1, 255], 257, 2, 257),
         refused("4 after all weights", &broken, &[1, 255], 256, 4, 1),
+        refused("one more than two weigh", &two, &[1, 255], 257, 2, 257),
+        refused("nothing of two", &two, &[1, 255], 0, 2, 0),
         refused("above the weight of all", &three, &[1, 2, 3], 7, 2, 7),
         refused("nothing is wanted", &three, &[1, 2, 3], 0, 2, 0),
         refused("no runs and no weights", &none, &[], 1, 1, 0),
@@ -330,6 +349,10 @@ pub fn weighted_checks() -> Vec<(Vec<u32>, u32, Vec<u8>, Verdict)> {
     // The first run alone is enough for 9, and no other for 2.
     let fewer = [&own[..5], &[hit(9, 1)], &own[6..]].concat();
     let other = [&own[..5], &[hit(9, 6)], &own[6..]].concat();
+    // Run 0 is left out, which weighs enough; and it alone is named, the others
+    // weighing too little.
+    let without_first = [&[gap(1, 1, 2)], &own[1..]].concat();
+    let first_alone = [&[gap(1, 1, 1)], &plain[1..]].concat();
     vec![
         of(&[3, 1, 1], 3, own, valid(3, 7)),
         of(&[3, 1, 1], 3, &fewer, valid(3, 7)),
@@ -337,6 +360,8 @@ pub fn weighted_checks() -> Vec<(Vec<u32>, u32, Vec<u8>, Verdict)> {
         of(&[3, 1, 1], 3, &other, invalid(10, 87)),
         of(&[1, 1, 1], 2, plain, valid(2, 6)),
         of(&[3, 1, 1], 4, plain, valid(2, 6)),
+        of(&[3, 1, 1], 4, &first_alone, valid(2, 6)),
+        of(&[3, 1, 1], 3, &without_first, invalid(10, 0)),
         // The gap from 2 to 4 leaves out the run that weighs three.
         of(&[3, 1, 1], 3, plain, invalid(10, 19)),
         // One run is not enough for the answer 2.
@@ -351,6 +376,7 @@ pub fn weighted_checks() -> Vec<(Vec<u32>, u32, Vec<u8>, Verdict)> {
         of(&[3, 1], 3, own, invalid(17, 3)),
         of(&[3, 1, 1, 1], 3, own, invalid(17, 3)),
         of(&[3, 1, 0], 3, own, invalid(17, 2)),
+        of(&[3, 1, 256], 3, own, invalid(17, 2)),
         of(&[256, 1, 0], 3, own, invalid(17, 0)),
         of(&[3, 256, 1], 0, own, invalid(17, 1)),
         of(&[3, 1, 1], 0, own, invalid(2, 0)),
