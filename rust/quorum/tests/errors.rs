@@ -1,7 +1,8 @@
 //! Refusals as errors: their texts, and `?` in functions whose errors differ.
 
 use quorum::{
-    check, lcov_run, parts, probe_bound, query, Checked, Counts, Part, Refusal, Stopped, StoppedRun,
+    check, lcov_run, parts, probe_bound, query, query_weighted, Checked, Counts, Part, Refusal,
+    Stopped, StoppedRun,
 };
 use std::collections::BTreeSet;
 use std::error::Error;
@@ -121,6 +122,26 @@ fn texts_of_stopped_queries() {
     assert_eq!(bad.refusal.number, Refusal::BAD_THRESHOLD);
     assert_eq!(bad.counts, Counts::default());
     assert_eq!(text(bad).as_deref(), Some(""));
+}
+
+/// A query with weights stops as one without, and with bad weights before anything
+/// is written.
+#[test]
+fn stopped_with_weights() {
+    let ask = |weights: &[u32]| {
+        let (answers, certificate) = (&mut [0; 9], &mut [0; 325]);
+        query_weighted(&NUMBERS, &ENDS, weights, 2, 2, answers, certificate)
+    };
+    assert_eq!(ask(&[1, 1, 1]), Err(SPENT));
+    let bad = Stopped {
+        refusal: Refusal {
+            number: Refusal::BAD_WEIGHTS,
+            place: 3,
+        },
+        counts: Counts::default(),
+    };
+    assert_eq!(ask(&[1, 1]), Err(bad));
+    assert_eq!(bad.to_string(), bad.refusal.to_string());
 }
 
 /// A stopped reading of a tracefile tells its refusal once and what it wrote, if
