@@ -1,7 +1,8 @@
 /*
  * Asks which bins at least two of {2, 5, 9}, {5, 7, 9, 12} and {1, 9} hold, has
- * the certificate checked, and prints the results and the certificate's parts,
- * as in expected.txt.
+ * the certificate checked, and prints the results and the certificate's parts.
+ * Then the same with the first run counting for three, and a weight of three wanted.
+ * It prints what is in expected.txt.
  *
  *     cc -Iinclude examples/query.c -Ltarget/staticlib -lquorum
  */
@@ -64,28 +65,26 @@ static void print_part(const part_t *part) {
     }
 }
 
-static void print_row(const char *const *names, const uint64_t *row, int count) {
+/** Prints a row of a question, or of a check, which has the first of its places. */
+static void print_row(const uint64_t *row, int count) {
+    static const char *const names[QUORUM_QUERY_ROW] = {
+        "refusal", "place",     "answers", "parts",
+        "bytes",   "doublings", "halvings"};
     for (int i = 0; i < count; i++) {
         printf("%s %" PRIu64 "\n", names[i], row[i]);
     }
 }
 
-int main(void) {
-    static const char *const names[QUORUM_QUERY_ROW] = {
-        "refusal", "place",     "answers", "parts",
-        "bytes",   "doublings", "halvings"};
-    const uint32_t numbers[9] = {2, 5, 9, 5, 7, 9, 12, 1, 9};
-    const uint32_t ends[3] = {3, 7, 9};
-    uint32_t answers[QUORUM_ENOUGH_ANSWERS(9)];
-    uint8_t certificate[QUORUM_ENOUGH_BYTES(9)];
-    uint64_t result[QUORUM_QUERY_ROW], verdict[QUORUM_CHECK_ROW];
+/**
+ * Prints what a question wrote and the verdict on its certificate. Returns 0 if
+ * both calls accepted.
+ */
+static int print_all(const uint64_t *result, const uint32_t *answers,
+                     const uint8_t *certificate, const uint64_t *verdict) {
     size_t offset = 0, size;
     part_t part;
 
-    quorum_query(numbers, 9, ends, 3, 2, QUORUM_ENOUGH_PROBES, answers,
-                 QUORUM_ENOUGH_ANSWERS(9), certificate, sizeof certificate,
-                 result);
-    print_row(names, result, QUORUM_QUERY_ROW);
+    print_row(result, QUORUM_QUERY_ROW);
     for (uint64_t i = 0; i < result[QUORUM_QUERY_ANSWERS]; i++) {
         printf("answer %" PRIu32 "\n", answers[i]);
     }
@@ -98,10 +97,33 @@ int main(void) {
         print_part(&part);
         offset += size;
     }
-
-    quorum_check(numbers, 9, ends, 3, 2, certificate,
-                 result[QUORUM_QUERY_BYTES], verdict);
-    print_row(names, verdict, QUORUM_CHECK_ROW);
+    print_row(verdict, QUORUM_CHECK_ROW);
     return result[QUORUM_REFUSAL] != QUORUM_ACCEPTED
         || verdict[QUORUM_REFUSAL] != QUORUM_ACCEPTED;
+}
+
+int main(void) {
+    const uint32_t numbers[9] = {2, 5, 9, 5, 7, 9, 12, 1, 9};
+    const uint32_t ends[3] = {3, 7, 9};
+    const uint32_t weights[3] = {3, 1, 1};
+    uint32_t answers[QUORUM_ENOUGH_ANSWERS(9)];
+    uint8_t certificate[QUORUM_ENOUGH_BYTES(9)];
+    uint64_t result[QUORUM_QUERY_ROW], verdict[QUORUM_CHECK_ROW];
+    int failed;
+
+    quorum_query(numbers, 9, ends, 3, 2, QUORUM_ENOUGH_PROBES, answers,
+                 QUORUM_ENOUGH_ANSWERS(9), certificate, sizeof certificate,
+                 result);
+    quorum_check(numbers, 9, ends, 3, 2, certificate,
+                 result[QUORUM_QUERY_BYTES], verdict);
+    failed = print_all(result, answers, certificate, verdict);
+
+    quorum_query_weighted(numbers, 9, ends, 3, weights, 3, 3,
+                          QUORUM_ENOUGH_PROBES, answers,
+                          QUORUM_ENOUGH_ANSWERS(9), certificate,
+                          sizeof certificate, result);
+    quorum_check_weighted(numbers, 9, ends, 3, weights, 3, 3, certificate,
+                          result[QUORUM_QUERY_BYTES], verdict);
+    failed |= print_all(result, answers, certificate, verdict);
+    return failed;
 }

@@ -48,6 +48,12 @@
  * certificate names no other run, and the number of chosen runs takes the place
  * of `ends_len`. Run i is bit i of every mask, whichever runs are chosen.
  *
+ * A question about all runs may give each a weight from 1 to QUORUM_MAX_WEIGHT, and
+ * want a weight in the place of `threshold`. Then a bin is an answer if the runs
+ * that hold it weigh at least that much together, and a certificate is true if each
+ * answer names runs that weigh at least that much and each gap leaves out runs that
+ * weigh less. Without weights each run weighs 1. Weights never come with a mask.
+ *
  * The lines that a test reached are a run too: quorum_lcov_run reads one section
  * of an LCOV tracefile.
  */
@@ -63,19 +69,24 @@ extern "C" {
 
 /** The version. While the major number is 0, a higher minor one may change calls. */
 #define QUORUM_VERSION_MAJOR 0
-#define QUORUM_VERSION_MINOR 6
+#define QUORUM_VERSION_MINOR 7
 #define QUORUM_VERSION_PATCH 0
 
-/** The limits: runs, numbers of all runs together, the first and the last bin. */
+/**
+ * The limits: runs, numbers of all runs together, a run's weight (1 is the least),
+ * the first and the last bin.
+ */
 #define QUORUM_MAX_RUNS 64
 #define QUORUM_MAX_NUMBERS 1048576
+#define QUORUM_MAX_WEIGHT 255
 #define QUORUM_FIRST_BIN 1u
 #define QUORUM_LAST_BIN 4294967295u
 
 /**
- * Room that is always enough for n numbers: with so many answers and certificate
- * bytes refusals 5 and 6 never occur. (Proved: `room-enough`.) Many questions in
- * one call need at most this for each of them. (Proved: `many-room-enough`.)
+ * Room that is always enough for n numbers, with weights or without: with so many
+ * answers and certificate bytes refusals 5 and 6 never occur. (Proved:
+ * `room-enough`, `weighted-room-enough`.) Many questions in one call need at most
+ * this for each of them. (Proved: `many-room-enough`.)
  */
 #define QUORUM_ENOUGH_ANSWERS(n) ((size_t)(n))
 #define QUORUM_ENOUGH_BYTES(n) (34 * (size_t)(n) + 19)
@@ -84,10 +95,11 @@ extern "C" {
 #define QUORUM_ENOUGH_RESULTS(q) (2 * (size_t)(q))
 
 /**
- * An allowance of probes that is always enough: 2 * 1048576 * 21. With it, or any
- * larger one, refusal 7 never occurs. (Proved: `always-enough`.) For n numbers in
- * all, b being the binary digits of n, 2 * n * b is enough too (`numbers-enough`).
- * Many questions in one call need at most this for each of them. (Proved:
+ * An allowance of probes that is always enough, with weights or without:
+ * 2 * 1048576 * 21. With it, or any larger one, refusal 7 never occurs. (Proved:
+ * `always-enough`, `weighted-always-enough`.) Without weights 2 * n * b is enough
+ * too, for n numbers in all, b being the binary digits of n (`numbers-enough`). Many
+ * questions in one call need at most this for each of them. (Proved:
  * `many-always-enough`.)
  */
 #define QUORUM_ENOUGH_PROBES 44040192u
@@ -109,6 +121,10 @@ extern "C" {
  * quorum_probe_bound_chosen has 1, 13 and 3. quorum_query_many has 1, 3, 4 and 14
  * first, then 13 and 2 for each question before the next, and only then 5 to 7.
  *
+ * Calls with weights check them just before the wanted weight:
+ * quorum_query_weighted and quorum_check_weighted have 1, 17, 2, 3 and 4 first, in
+ * this order, then 5 to 7 as quorum_query and 8 to 11 as quorum_check.
+ *
  * quorum_lcov_run has 15, 4 and 5 in this order for each record, and 16 at the end
  * of the file.
  */
@@ -118,7 +134,8 @@ enum {
     QUORUM_BAD_RUN_COUNT = 1,
     /**
      * The threshold is 0 or above the number of runs, or of those chosen. Place:
-     * threshold; from quorum_query_many the number of runs chosen.
+     * threshold; from quorum_query_many the number of runs chosen. Or the wanted
+     * weight is 0 or above the weight of all runs. Place: wanted.
      */
     QUORUM_BAD_THRESHOLD = 2,
     /**
@@ -154,7 +171,11 @@ enum {
      * still uncovered; place: the certificate's length.
      */
     QUORUM_NOT_COVERING = 9,
-    /** A part names a run that does not exist or is not chosen, or too few runs. */
+    /**
+     * A part names a run that does not exist or is not chosen, or too few runs. With
+     * weights: the runs that an answer names weigh less than wanted, or those that
+     * a gap leaves out do not.
+     */
     QUORUM_BAD_MASK = 10,
     /** A named run contradicts its part. */
     QUORUM_CONTRADICTED = 11,
@@ -178,7 +199,12 @@ enum {
      * The tracefile has no such section, or the section has no end_of_record.
      * Place: file_len.
      */
-    QUORUM_NO_SECTION = 16
+    QUORUM_NO_SECTION = 16,
+    /**
+     * There are not as many weights as runs; place: ends_len. Else a weight is 0 or
+     * above 255; place: the index of the first such.
+     */
+    QUORUM_BAD_WEIGHTS = 17
 };
 
 /**
@@ -260,6 +286,46 @@ void quorum_query(const uint32_t *numbers, size_t numbers_len,
                   uint32_t allowance, uint32_t *answers, size_t answers_len,
                   uint8_t *certificate, size_t certificate_len,
                   uint64_t result[QUORUM_QUERY_ROW]);
+
+/**
+ * Write the bins that runs hold which together weigh at least `wanted` to
+ * `answers`, rising, and to `certificate` the parts that show them to be all. Run i
+ * weighs weights[i], from 1 to QUORUM_MAX_WEIGHT. With all weights 1 this is
+ * quorum_query, in its row and in both buffers.
+ *
+ * `result` receives what it does from quorum_query. Refusals 1, 17, 2, 3 and 4
+ * write nothing, and their counts are 0; 5 to 7, and what stands after them, are as
+ * there.
+ *
+ * The allowance too is as there: in a run whose number of bins has b binary digits
+ * there are at most 2 * d * b probes, d being the number of parts of any certificate
+ * that is true for these weights, so quorum_probe_bound() serves these questions as
+ * it is, and so does QUORUM_ENOUGH_PROBES.
+ *
+ * Cost: as quorum_query, and in each round the weights of the runs that stand
+ * lowest are added up until they are enough, and then those of the runs that hold
+ * the bin so found. The certificate has the fewest parts of all that are true for
+ * these weights.
+ *
+ * Example, after the one above: the first run counts for three and a weight of three
+ * is wanted, so that it is enough by itself, and all of its bins are answers.
+ *
+ *     uint32_t weights[] = {3, 1, 1};
+ *     uint32_t weighed_answers[QUORUM_ENOUGH_ANSWERS(9)];
+ *     uint8_t weighed[QUORUM_ENOUGH_BYTES(9)];
+ *     uint64_t weighed_result[QUORUM_QUERY_ROW];
+ *     quorum_query_weighted(numbers, 9, ends, 3, weights, 3, 3,
+ *                           QUORUM_ENOUGH_PROBES, weighed_answers, 9, weighed,
+ *                           sizeof weighed, weighed_result);
+ *     // weighed_result: 0, 0, 3, 7, 121, 2, 0; weighed_answers: 2, 5, 9
+ */
+void quorum_query_weighted(const uint32_t *numbers, size_t numbers_len,
+                           const uint32_t *ends, size_t ends_len,
+                           const uint32_t *weights, size_t weights_len,
+                           uint32_t wanted, uint32_t allowance,
+                           uint32_t *answers, size_t answers_len,
+                           uint8_t *certificate, size_t certificate_len,
+                           uint64_t result[QUORUM_QUERY_ROW]);
 
 /**
  * Ask many questions about the same runs: question q is which bins at least
@@ -365,6 +431,36 @@ void quorum_check_chosen(const uint32_t *numbers, size_t numbers_len,
                          uint64_t result[QUORUM_CHECK_ROW]);
 
 /**
+ * Decide whether a certificate is true for the runs, their weights and `wanted`,
+ * whoever wrote it: each answer names runs that weigh at least that much, and each
+ * gap leaves out runs that weigh less. One that is true for some weights may be false
+ * for others. With all weights 1 this is quorum_check.
+ *
+ * `result` receives refusal and place, then the certificate's answers and parts,
+ * both 0 on a refusal, as quorum_check. A certificate that begins at bin 0 is
+ * refusal 9 at place 0 here too.
+ *
+ * Cost: as quorum_check, and one step more for each run that a part names.
+ *
+ * Example, after those above: the certificate of the question with weights; then
+ * the same for a wanted weight of 4, for which run 0 alone, named by the second part,
+ * is not enough.
+ *
+ *     quorum_check_weighted(numbers, 9, ends, 3, weights, 3, 3, weighed,
+ *                           weighed_result[QUORUM_QUERY_BYTES], verdict);
+ *     // verdict: 0, 0, 3, 7
+ *     quorum_check_weighted(numbers, 9, ends, 3, weights, 3, 4, weighed,
+ *                           weighed_result[QUORUM_QUERY_BYTES], verdict);
+ *     // verdict: 10, 19, 0, 0
+ */
+void quorum_check_weighted(const uint32_t *numbers, size_t numbers_len,
+                           const uint32_t *ends, size_t ends_len,
+                           const uint32_t *weights, size_t weights_len,
+                           uint32_t wanted, const uint8_t *certificate,
+                           size_t certificate_len,
+                           uint64_t result[QUORUM_CHECK_ROW]);
+
+/**
  * Find the bins of one list from `first` to `last`, both included.
  *
  * `part` receives the place of the first of them and the place after the last:
@@ -391,8 +487,9 @@ void quorum_between(const uint32_t *list, size_t list_len, uint32_t first,
 /**
  * Sum up 2 * parts * (binary digits of the run's length) over the runs. If some
  * true certificate has so many parts, an allowance of this many probes is enough:
- * refusal 7 never occurs. A sum above QUORUM_ENOUGH_PROBES, which may not fit the
- * 32 bits of an allowance, can be cut down to that.
+ * refusal 7 never occurs. That holds with weights too, of a certificate that is true
+ * for these. A sum above QUORUM_ENOUGH_PROBES, which may not fit the 32 bits of an
+ * allowance, can be cut down to that.
  *
  * The length is that of the numbers as lent, zeros at the start among them, for the
  * ends tell no more. So the sum may be above that over the runs' bins, and is

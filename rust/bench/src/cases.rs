@@ -1,8 +1,9 @@
 //! The cases of the tables: a shape of input, a number of runs and a
-//! threshold, perhaps with zeros before each run; or a tracefile.
+//! threshold, perhaps with zeros before each run or with weights; or a tracefile.
 
 use crate::inputs::{self, Input, NUMBERS};
 use crate::tracefiles;
+use reference::testing::Random;
 use std::fmt;
 
 /// One line of a table. [`Display`](fmt::Display) gives its name, as
@@ -43,6 +44,65 @@ impl fmt::Display for HalfZeros {
     }
 }
 
+/// What the runs of a question weigh.
+#[derive(Clone, Copy, PartialEq, Eq)]
+pub enum Weights {
+    /// 1 each.
+    Ones,
+    /// One run in eight weighs 8, the others 1.
+    Eights,
+    /// Any weight that a run may have.
+    Any,
+}
+
+impl fmt::Display for Weights {
+    fn fmt(&self, f: &mut fmt::Formatter<'_>) -> fmt::Result {
+        f.pad(match self {
+            Weights::Ones => "all 1",
+            Weights::Eights => "1 and 8",
+            Weights::Any => "1 to 255",
+        })
+    }
+}
+
+/// One line of the table about weights. [`Display`](fmt::Display) gives its name,
+/// as `weights 1 and 8, dense k=64 wanted=60`.
+#[derive(Clone, Copy)]
+pub struct Weighted {
+    /// The case without weights.
+    pub case: Case,
+    /// What its runs weigh.
+    pub weights: Weights,
+}
+
+impl Weighted {
+    /// What each run weighs.
+    pub fn row(&self) -> Vec<u32> {
+        let mut random = Random(6);
+        let weight = |i: usize| match self.weights {
+            Weights::Ones => 1,
+            Weights::Eights if i % 8 == 3 => 8,
+            Weights::Eights => 1,
+            Weights::Any => random.from_to(1, 255) as u32,
+        };
+        (0..self.case.runs).map(weight).collect()
+    }
+
+    /// The share of all weights that the threshold is of all runs.
+    pub fn wanted(&self) -> u32 {
+        let (t, k) = (self.case.threshold as u32, self.case.runs as u32);
+        (self.row().iter().sum::<u32>() * t).div_ceil(k)
+    }
+}
+
+impl fmt::Display for Weighted {
+    fn fmt(&self, f: &mut fmt::Formatter<'_>) -> fmt::Result {
+        let Case { shape, runs, .. } = self.case;
+        let (weights, wanted) = (self.weights, self.wanted());
+        write!(f, "weights {weights}, {shape} k={runs} wanted={wanted}")
+    }
+}
+
 /// A shape's name, its input of so many runs and numbers, and the numbers of runs
 /// that it is tried with.
 type Shape = (&'static str, fn(usize, usize) -> Input, &'static [usize]);
@@ -70,14 +130,25 @@ const ASKED_TOGETHER: [Shape; 4] = [
     ("blocks", inputs::blocks, &[64]),
 ];
 
+const WEIGHTED: [Shape; 5] = [
+    ("dense", inputs::dense, &[8, 64]),
+    ("sparse", inputs::sparse, &[8, 64]),
+    ("nearly disjoint", inputs::nearly_disjoint, &[8, 64]),
+    ("blocks", inputs::blocks, &[8, 64]),
+    ("skewed", inputs::skewed, &[2]),
+];
+
 /// The cases of the first table, in which queries are timed.
 pub fn queried() -> Vec<Case> {
-    cases(&QUERIED, |k| {
-        let mut thresholds = vec![1, 2, k / 2, k];
-        thresholds.sort_unstable();
-        thresholds.dedup();
-        thresholds
-    })
+    cases(&QUERIED, all_thresholds)
+}
+
+/// One, two, half and all of so many runs.
+fn all_thresholds(k: usize) -> Vec<usize> {
+    let mut thresholds = vec![1, 2, k / 2, k];
+    thresholds.sort_unstable();
+    thresholds.dedup();
+    thresholds
 }
 
 /// The cases of the second table, in which checks are timed.
@@ -95,6 +166,18 @@ pub fn half_zeros() -> Vec<HalfZeros> {
     asked_together().into_iter().map(HalfZeros).collect()
 }
 
+/// The cases of the fifth table, in which queries and checks by weight are timed:
+/// with all weights 1, and, where there are many runs, with others.
+pub fn weighted() -> Vec<Weighted> {
+    let kinds = [Weights::Ones, Weights::Eights, Weights::Any];
+    let with_weights = |case: Case| {
+        let kinds = &kinds[..if case.runs == 64 { 3 } else { 1 }];
+        kinds.iter().map(move |&weights| Weighted { case, weights })
+    };
+    let cases = cases(&WEIGHTED, all_thresholds).into_iter();
+    cases.flat_map(with_weights).collect()
+}
+
 fn cases(shapes: &[Shape], thresholds: fn(usize) -> Vec<usize>) -> Vec<Case> {
     let mut cases = Vec::new();
     for &(shape, input, runs) in shapes {
@@ -110,11 +193,24 @@ fn cases(shapes: &[Shape], thresholds: fn(usize) -> Vec<usize>) -> Vec<Case> {
     cases
 }
 
+impl AsRef<Case> for Case {
+    fn as_ref(&self) -> &Case {
+        self
+    }
+}
+
+impl AsRef<Case> for Weighted {
+    fn as_ref(&self) -> &Case {
+        &self.case
+    }
+}
+
 /// The cases with their inputs, each of which is made once for all cases that
 /// follow one another with it.
-pub fn with_inputs(cases: &[Case]) -> impl Iterator<Item = (&[Case], Input)> {
-    let groups = cases.chunk_by(|a, b| (a.shape, a.runs) == (b.shape, b.runs));
-    groups.map(|group| (group, group[0].input(NUMBERS)))
+pub fn with_inputs<C: AsRef<Case>>(cases: &[C]) -> impl Iterator<Item = (&[C], Input)> {
+    let input_of = |case: &C| (case.as_ref().shape, case.as_ref().runs);
+    let groups = cases.chunk_by(move |a, b| input_of(a) == input_of(b));
+    groups.map(|group| (group, group[0].as_ref().input(NUMBERS)))
 }
 
 /// The cases of the tables that are measured.
@@ -128,6 +224,8 @@ pub struct Selected {
     /// Those of the fourth table.
     pub half_zeros: Vec<HalfZeros>,
     /// Those of the fifth table.
+    pub weighted: Vec<Weighted>,
+    /// Those of the sixth table.
     pub read: Vec<tracefiles::Case>,
 }
 
@@ -140,15 +238,18 @@ pub fn select(substring: &str) -> Result<Selected, String> {
         checked: having(substring, checked()),
         asked_together: having(substring, asked_together()),
         half_zeros: having(substring, half_zeros()),
+        weighted: having(substring, weighted()),
         read: having(substring, tracefiles::cases()),
     };
     let Selected {
-        queried: first,
-        half_zeros: fourth,
-        read: fifth,
+        queried,
+        half_zeros,
+        weighted,
+        read,
         ..
     } = &selected;
-    if first.is_empty() && fourth.is_empty() && fifth.is_empty() {
+    let is_none = queried.is_empty() && half_zeros.is_empty();
+    if is_none && weighted.is_empty() && read.is_empty() {
         return Err(format!(
             "no case has `{substring}` in its name; there are\n{}",
             all_names().join("\n")
@@ -165,8 +266,13 @@ fn having<C: fmt::Display>(substring: &str, mut cases: Vec<C>) -> Vec<C> {
 
 /// The names of all cases.
 fn all_names() -> Vec<String> {
-    let others = [names(&half_zeros()), names(&tracefiles::cases())];
-    [names(&queried()), others.concat()].concat()
+    [
+        names(&queried()),
+        names(&half_zeros()),
+        names(&weighted()),
+        names(&tracefiles::cases()),
+    ]
+    .concat()
 }
 
 fn names<C: fmt::Display>(cases: &[C]) -> Vec<String> {
@@ -184,7 +290,7 @@ mod tests {
         let all = select("").unwrap();
         let counts = [&all.queried, &all.checked, &all.asked_together].map(Vec::len);
         assert_eq!(counts, [46, 12, 4]);
-        assert_eq!(all.half_zeros.len(), 4);
+        assert_eq!((all.half_zeros.len(), all.weighted.len()), (4, 66));
         assert_eq!(
             names(&all.queried)[..3],
             ["dense k=2 t=1", "dense k=2 t=2", "dense k=8 t=1"]
@@ -217,13 +323,27 @@ mod tests {
         );
         assert_eq!(names(&some.asked_together), ["dense k=64 t=32"]);
         assert_eq!(names(&some.half_zeros), ["half zeros, dense k=64 t=32"]);
-        assert!(some.read.is_empty());
+        assert!(some.weighted.is_empty() && some.read.is_empty());
         let one = select("skewed k=2 t=2").unwrap();
         assert_eq!(names(&one.queried), ["skewed k=2 t=2"]);
         assert!(one.checked.is_empty() && one.asked_together.is_empty());
         let zeros = select("half zeros, blocks").unwrap();
         assert_eq!(names(&zeros.half_zeros), ["half zeros, blocks k=64 t=32"]);
         assert!(zeros.queried.is_empty() && zeros.read.is_empty());
+        let weights = select("nearly disjoint k=64 wanted=").unwrap();
+        let names_of = names(&weights.weighted);
+        assert_eq!(
+            names_of[..3],
+            [
+                "weights all 1, nearly disjoint k=64 wanted=1",
+                "weights 1 and 8, nearly disjoint k=64 wanted=2",
+                "weights 1 to 255, nearly disjoint k=64 wanted=132"
+            ]
+        );
+        assert_eq!(names_of.len(), 12);
+        assert!(weights.queried.is_empty() && weights.read.is_empty());
+        let few = select("weights all 1, dense k=8").unwrap();
+        assert_eq!(few.weighted.len(), 4);
         let read = select("tracefile, last").unwrap();
         assert_eq!(names(&read.read), TRACEFILES[..1]);
         assert!(read.queried.is_empty() && read.checked.is_empty());
@@ -240,14 +360,32 @@ mod tests {
         let all = [
             names(&queried()),
             names(&half_zeros()),
+            names(&weighted()),
             TRACEFILES.map(str::to_string).to_vec(),
         ];
         assert!(lines.eq(all.concat()));
     }
 
+    /// The weights are some that a run may have, and what is wanted can be reached.
+    #[test]
+    fn weights() {
+        for weighted in weighted() {
+            let row = weighted.row();
+            assert_eq!(row.len(), weighted.case.runs);
+            assert!(row.iter().all(|weight| (1..=255).contains(weight)));
+            assert!((1..=row.iter().sum()).contains(&weighted.wanted()));
+            if weighted.weights == Weights::Ones {
+                assert_eq!(weighted.wanted() as usize, weighted.case.threshold);
+            }
+        }
+    }
+
     #[test]
     fn one_input_for_neighbours() {
         let cases = select("skewed").unwrap().queried;
+        let groups: Vec<usize> = with_inputs(&cases).map(|(group, _)| group.len()).collect();
+        assert_eq!(groups, [2]);
+        let cases = select("skewed").unwrap().weighted;
         let groups: Vec<usize> = with_inputs(&cases).map(|(group, _)| group.len()).collect();
         assert_eq!(groups, [2]);
     }

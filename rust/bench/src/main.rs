@@ -1,8 +1,9 @@
 //! Times the library on 1,048,576 numbers beside the reference walk, heap
 //! merges with counting and a sort with counting, a check of the walk's own
 //! certificate beside the query, many questions in one call beside as many calls,
-//! and the same with as many zeros before the bins beside the bins alone; and on
-//! tracefiles of 100,000,000 bytes beside the same reader in Rust.
+//! the same with as many zeros before the bins beside the bins alone, and queries
+//! and checks by weight beside those without weights; and on tracefiles of
+//! 100,000,000 bytes beside the same reader in Rust.
 //!
 //!     cargo run --release -p bench -- [--only SUBSTRING] [--reps N] [--help]
 //!
@@ -21,6 +22,7 @@ mod ordered;
 mod querying;
 mod reading;
 mod tracefiles;
+mod weighing;
 mod zeros;
 
 use inputs::NUMBERS;
@@ -59,6 +61,7 @@ fn main() -> ExitCode {
     tables.print(&selected.checked, repetitions, checking::report);
     tables.print(&selected.asked_together, repetitions, many::report);
     tables.print(&selected.half_zeros, repetitions, zeros::report);
+    tables.print(&selected.weighted, repetitions, weighing::report);
     tables.print(&selected.read, repetitions, reading::report);
     ExitCode::SUCCESS
 }

@@ -7,16 +7,17 @@ pub const USAGE: &str = "usage: bench [--only SUBSTRING] [--reps N] [--help]";
 pub const HELP: &str = "
 Times the library on 1,048,576 numbers beside other ways to the answers, checks
 of certificates beside queries, many questions in one call beside as many calls
-and with zeros before the bins beside the bins alone, and the reading of
-tracefiles of 100,000,000 bytes. Standard output has the five tables.
+and with zeros before the bins beside the bins alone, queries and checks by weight
+beside those without weights, and the reading of tracefiles of 100,000,000 bytes.
+Standard output has the six tables.
 
   --only SUBSTRING  measure the cases whose name, as `dense k=8 t=2`,
-                    `half zeros, dense k=64 t=32` or `tracefile, one section`,
-                    has this
+                    `half zeros, dense k=64 t=32`, `weights all 1, dense k=8 wanted=2`
+                    or `tracefile, one section`, has this
   --reps N          repetitions, 1 or more, of which the median counts; 9 if not given
   --help            print this
 
-Columns of the first four tables:
+Columns of the first five tables, of which the fifth has no t:
   case            shape of the input
   k               number of runs
   t               threshold
@@ -57,7 +58,20 @@ zeros in each run and without them:
   zeros/same      time of the call with the zeros divided by that of the library's own
                   way in Rust
 
-Columns of the fifth table, the last section of a tracefile read as a run:
+Columns of the fifth table, queries by weight and checks of their certificates:
+  weights         1 each; one run in eight weighing 8, the others 1; or any
+  wanted          the wanted weight: of all weights the share that 1, 2, half or all
+                  of the runs are of the runs
+  query ms        time of the query, in milliseconds
+  query/plain     where all weigh 1: the same divided by that of the query without
+                  weights
+  query/same      the same divided by that of the library's own way in Rust
+  check ms        time of the check, in milliseconds
+  check/plain     where all weigh 1: the same divided by that of the check without
+                  weights
+  check/query     time of the check divided by that of the query
+
+Columns of the sixth table, the last section of a tracefile read as a run:
   case            which tracefile: one of many sections, or of one with all its records
   sections        number of sections
   numbers         numbers of the run

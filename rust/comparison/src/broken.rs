@@ -1,6 +1,6 @@
-//! Rows and thresholds that the first checks refuse.
+//! Rows, weights and thresholds that the first checks refuse.
 
-use reference::testing::{mark_later, Random, M};
+use reference::testing::{any_weights, break_weights, mark_later, Random, Wanted, M};
 
 /// Returns a threshold: mostly good, at times 0, one above `k` or far too
 /// large.
@@ -10,6 +10,33 @@ pub fn any_threshold(random: &mut Random, k: usize) -> u32 {
         1 => random.pick(&[1, 2, k as u32 / 2, k as u32]),
         _ => random.from_to(1, k.max(1)) as u32,
     }
+}
+
+/// Returns what a question wants of `k` runs, with weights or without: mostly
+/// something that they can reach, at times 0, one more than they come to or far too
+/// much.
+pub fn any_wanted(random: &mut Random, k: usize, weighted: bool) -> Wanted {
+    if !weighted {
+        return Wanted::plain(any_threshold(random, k));
+    }
+    let weights = any_weights(random, k);
+    let total = weights.iter().sum::<u32>();
+    match random.one_in(20) || k == 0 {
+        true => Wanted::weighted(&weights, random.pick(&[0, total + 1, M])),
+        false => Wanted::any_of(random, &weights),
+    }
+}
+
+/// The same with weights that are broken in one or two ways, in half of the cases
+/// that have weights.
+pub fn any_broken(random: &mut Random, k: usize, weighted: bool) -> Wanted {
+    let mut wanted = any_wanted(random, k, weighted);
+    if let (Some(weights), true) = (&mut wanted.weights, random.one_in(2)) {
+        for _ in 0..random.from_to(1, 2) {
+            break_weights(random, weights);
+        }
+    }
+    wanted
 }
 
 /// Breaks the rows in one way. They may still pass the first checks.

@@ -2,62 +2,117 @@
 //! sides read in them.
 
 use quorum::Refusal;
-use reference::testing::{Random, M};
-use reference::{all_runs, decode, named_runs, Part, FIRST_BIN};
+use reference::testing::{weight_of, Random, Wanted, M};
+use reference::{all_runs, decode, named_runs, Part, Weighting, FIRST_BIN};
 
-/// Runs, those of them that are chosen, and a threshold that pass the first
-/// checks.
+/// Runs, what they weigh, and a threshold that pass the first checks.
 #[derive(Clone, Copy)]
 pub struct Task<'a> {
     /// The runs, from 1 to 64.
     pub runs: &'a [&'a [u32]],
-    /// The mask of the chosen ones, at least one.
-    pub chosen: u64,
-    /// From 1 to the number of chosen runs.
+    /// What they weigh, or which of them are chosen, at least one.
+    pub weighting: Weighting<'a>,
+    /// From 1 to the weight of all runs, or to the number of those chosen.
     pub threshold: u32,
 }
 
 impl<'a> Task<'a> {
-    /// All runs are chosen.
+    /// Every run counts for one.
     pub fn of_all(runs: &'a [&'a [u32]], threshold: u32) -> Self {
         Task {
             runs,
-            chosen: all_runs(runs.len()),
+            weighting: Weighting::Plain,
             threshold,
+        }
+    }
+
+    /// The runs that the mask names count for one.
+    pub fn of_chosen(runs: &'a [&'a [u32]], mask: u64, threshold: u32) -> Self {
+        Task {
+            weighting: Weighting::Chosen(mask),
+            ..Task::of_all(runs, threshold)
+        }
+    }
+
+    /// Every run counts for one, or for its weight.
+    pub fn wanting(runs: &'a [&'a [u32]], wanted: &'a Wanted) -> Self {
+        Task {
+            weighting: wanted.weighting(),
+            ..Task::of_all(runs, wanted.threshold)
         }
     }
 }
 
 impl Task<'_> {
+    /// The mask of the chosen runs.
+    pub fn chosen(&self) -> u64 {
+        match self.weighting {
+            Weighting::Chosen(mask) => mask,
+            Weighting::Plain | Weighting::Given(_) => all_runs(self.runs.len()),
+        }
+    }
+
+    /// What the runs that the mask names count for.
+    fn weight(&self, mask: u64) -> u32 {
+        match self.weighting {
+            Weighting::Plain | Weighting::Chosen(_) => mask.count_ones(),
+            Weighting::Given(weights) => weight_of(weights, mask),
+        }
+    }
+
     /// The mask of the chosen runs that have a number from `first` to `last`.
     fn holding(&self, first: u32, last: u32) -> u64 {
         let holds = |&i: &usize| {
             let place = self.runs[i].partition_point(|&x| x < first);
             self.runs[i].get(place).is_some_and(|&x| x <= last)
         };
-        named_runs(self.chosen).filter(holds).map(|i| 1 << i).sum()
+        let chosen = named_runs(self.chosen());
+        chosen.filter(holds).map(|i| 1 << i).sum()
     }
 
     fn missing(&self, first: u32, last: u32) -> u64 {
-        self.chosen & !self.holding(first, last)
+        self.chosen() & !self.holding(first, last)
     }
 
-    /// How many runs a gap names at least.
+    /// What the runs that a gap names count for at least: then the others count
+    /// for less than the threshold.
     fn needed_by_gap(&self) -> u32 {
-        self.chosen.count_ones() - self.threshold + 1
+        self.weight(self.chosen()) - self.threshold + 1
     }
 
     /// A gap that names some of the runs that miss it, `None` if too few do.
     fn gap(&self, random: &mut Random, first: u32, last: u32) -> Option<Part> {
-        let mask = some_of(random, self.missing(first, last), self.needed_by_gap())?;
+        let mask = self.some_of(random, self.missing(first, last), self.needed_by_gap())?;
         Some(Part::Gap { first, last, mask })
     }
 
     /// An answer that names some of the runs that hold it, `None` if too few
     /// do.
     fn answer(&self, random: &mut Random, value: u32) -> Option<Part> {
-        let mask = some_of(random, self.holding(value, value), self.threshold)?;
+        let mask = self.some_of(random, self.holding(value, value), self.threshold)?;
         Some(Part::Answer { value, mask })
+    }
+
+    /// Some of the runs that the mask names, which count for at least `least`;
+    /// `None` if all of them do not. Often none can be left out any more.
+    fn some_of(&self, random: &mut Random, mask: u64, least: u32) -> Option<u64> {
+        if self.weight(mask) < least {
+            return None;
+        }
+        let mut named: Vec<usize> = named_runs(mask).collect();
+        let tried = match random.below(3) {
+            0 => 0,
+            1 => named.len(),
+            _ => random.below(named.len() + 1),
+        };
+        let mut mask = mask;
+        for _ in 0..tried {
+            let without = mask & !(1 << named.swap_remove(random.below(named.len())));
+            if self.weight(without) >= least {
+                mask = without;
+            }
+        }
+        Some(mask)
     }
 
     /// The last number to which a gap that begins at `first` may reach;
@@ -67,9 +122,15 @@ impl Task<'_> {
             let place = self.runs[i].partition_point(|&x| x < first);
             self.runs[i].get(place).map_or(1 << 32, |&x| u64::from(x))
         };
-        let mut stops: Vec<u64> = named_runs(self.chosen).map(next).collect();
+        let mut stops: Vec<(u64, u64)> = named_runs(self.chosen())
+            .map(|i| (next(i), 1 << i))
+            .collect();
         stops.sort_unstable();
-        let stop = stops[self.threshold as usize - 1];
+        let mut stopped = 0;
+        let (stop, _) = stops.into_iter().find(|(_, run)| {
+            stopped |= run;
+            self.weight(stopped) >= self.threshold
+        })?;
         (stop > u64::from(first)).then(|| (stop - 1) as u32)
     }
 
@@ -90,7 +151,7 @@ impl Task<'_> {
                     self.gap(random, next, last)
                 }
             };
-            let part = part.expect("at most t - 1 runs hold a number or at least t do");
+            let part = part.expect("the runs that hold a number are enough or are not");
             parts.push(part);
             if part.last() == M {
                 return parts;
@@ -113,11 +174,11 @@ impl Task<'_> {
                 };
             }
             (_, 1) => {
-                let mask = random.pick(&[self.holding(0, 0), self.chosen]);
+                let mask = random.pick(&[self.holding(0, 0), self.chosen()]);
                 parts.insert(0, Part::Answer { value: 0, mask });
             }
             _ => {
-                let mask = random.pick(&[self.missing(0, 0), self.chosen]);
+                let mask = random.pick(&[self.missing(0, 0), self.chosen()]);
                 let (first, last) = (0, 0);
                 parts.insert(0, Part::Gap { first, last, mask });
             }
@@ -187,7 +248,7 @@ impl Task<'_> {
             Part::Answer { value, .. } => Part::Answer { value, mask },
             Part::Gap { first, last, .. } => Part::Gap { first, last, mask },
         };
-        match random.below(12) {
+        match random.below(14) {
             // A gap one number too wide, the part beside it narrowed or not.
             0 | 1 => widen(random, parts, i),
             // A run that is not chosen: one of the others, or beyond the last.
@@ -195,7 +256,7 @@ impl Task<'_> {
             // One name more or less, or other names.
             3 => parts[i] = with_mask(mask ^ 1 << random.below(k)),
             4 => {
-                let (all, chosen) = (all_runs(k), self.chosen);
+                let (all, chosen) = (all_runs(k), self.chosen());
                 let fewer = mask & mask.wrapping_sub(1);
                 let masks = [0, all, u64::MAX, chosen, !mask & chosen, fewer];
                 parts[i] = with_mask(random.pick(&masks));
@@ -235,6 +296,14 @@ impl Task<'_> {
                     parts[i] = Part::Gap { first, last, mask };
                 }
             }
+            // Any of the runs that do not contradict it, enough or not.
+            11 | 12 => {
+                let agreeing = match parts[i] {
+                    Part::Answer { value, .. } => self.holding(value, value),
+                    Part::Gap { .. } => self.missing(first, last),
+                };
+                parts[i] = with_mask(agreeing & random.bits());
+            }
             // Something after the largest number.
             _ => {
                 let first = random.pick(&[0, 1, M - 1, M]);
@@ -250,10 +319,10 @@ impl Task<'_> {
     /// The bit of a run that is not chosen, half the time of one that there is;
     /// no bit if there is none.
     fn another(&self, random: &mut Random) -> u64 {
-        let others = all_runs(self.runs.len()) & !self.chosen;
+        let others = all_runs(self.runs.len()) & !self.chosen();
         let others = match others != 0 && random.one_in(2) {
             true => others,
-            false => !self.chosen,
+            false => !self.chosen(),
         };
         let bits: Vec<u64> = named_runs(others).map(|i| 1 << i).collect();
         match bits.is_empty() {
@@ -261,22 +330,6 @@ impl Task<'_> {
             false => random.pick(&bits),
         }
     }
-}
-
-/// At least `least` of the runs that the mask names; `None` if it names fewer.
-fn some_of(random: &mut Random, mask: u64, least: u32) -> Option<u64> {
-    let spare = mask.count_ones().checked_sub(least)?;
-    let dropped = match random.below(3) {
-        0 => 0,
-        1 => spare,
-        _ => random.below(spare as usize + 1) as u32,
-    };
-    let mut mask = mask;
-    for _ in 0..dropped {
-        let names: Vec<u64> = (0..64).map(|i| mask & 1 << i).filter(|&b| b != 0).collect();
-        mask ^= random.pick(&names);
-    }
-    Some(mask)
 }
 
 /// Moves one end of a gap outwards by one. In most cases the part beside it

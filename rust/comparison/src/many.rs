@@ -2,11 +2,12 @@
 //! write.
 
 use crate::lent::{noise, Lent};
+use crate::met::Refusals;
 use crate::question::{counts_of, limits_near, Buffers, Limits};
 use crate::Row;
 use quorum::{finished, Answered, Counts, Refusal, StoppedMany};
 use reference::testing::{lay_out, many_row, Random};
-use reference::{all_runs, trace_chosen, Part};
+use reference::{all_runs, trace_by, Part, Weighting};
 use std::fmt;
 
 /// The runs and the questions of a call.
@@ -102,8 +103,8 @@ impl Rows {
 pub struct Comparer {
     found: Rows,
     expected: Rows,
-    /// How many calls ended with each refusal; 0 stands for accepted.
-    pub seen: [u64; 15],
+    /// How many calls ended with each refusal.
+    pub seen: Refusals,
     /// Compare the rows of the C interface and not the results.
     rows: bool,
 }
@@ -124,14 +125,12 @@ impl Comparer {
 
     /// How many calls were made.
     pub fn asked(&self) -> u64 {
-        self.seen.iter().sum()
+        self.seen.all()
     }
 
     /// Each of the outcomes was met often enough.
     pub fn met(&self, outcomes: &[usize], times: u64) {
-        let seen = self.seen;
-        println!("{} calls, by refusal {seen:?}", self.asked());
-        assert!(outcomes.iter().all(|&i| seen[i] >= times), "{seen:?}");
+        self.seen.met("calls", outcomes, times);
     }
 
     /// Makes the call on both sides, with `results` result places, and compares
@@ -189,7 +188,7 @@ impl Comparer {
         self.found.buffers.compare(&self.expected.buffers, context);
         let place = self.found.results.difference(&self.expected.results);
         assert_eq!(place, None, "results, {}", context());
-        self.seen[expected[0] as usize] += 1;
+        self.seen.count(expected[0]);
         expected
     }
 
@@ -240,7 +239,7 @@ pub fn whole(call: &Call) -> Option<Limits> {
         bytes: 0,
     };
     for (&mask, &threshold) in masks.iter().zip(thresholds) {
-        let walk = trace_chosen(numbers, ends, mask, threshold).ok()?;
+        let walk = trace_by(numbers, ends, Weighting::Chosen(mask), threshold).ok()?;
         let is_answer = |part: &&Part| matches!(part, Part::Answer { .. });
         let answers = walk.parts.iter().filter(is_answer).count();
         whole.allowance += walk.all_probes().total() as u32;

@@ -2,6 +2,42 @@
 
 use std::collections::{BTreeMap, BTreeSet};
 use std::fmt::Debug;
+use std::ops::Index;
+
+/// How often each refusal was met, by its number; 0 stands for accepted.
+#[derive(Clone, Copy, Debug, Default)]
+pub struct Refusals([u64; 18]);
+
+impl Refusals {
+    /// Counts one more.
+    pub fn count(&mut self, number: u64) {
+        self.0[number as usize] += 1;
+    }
+
+    /// How often any was met.
+    pub fn all(&self) -> u64 {
+        self.0.iter().sum()
+    }
+
+    /// Each of the numbers was met so often.
+    ///
+    /// # Panics
+    ///
+    /// If one was not.
+    pub fn met(&self, calls: &str, numbers: &[usize], times: u64) {
+        let Refusals(seen) = self;
+        println!("{} {calls}, by refusal {seen:?}", self.all());
+        assert!(numbers.iter().all(|&i| seen[i] >= times), "{seen:?}");
+    }
+}
+
+impl Index<usize> for Refusals {
+    type Output = u64;
+
+    fn index(&self, number: usize) -> &u64 {
+        &self.0[number]
+    }
+}
 
 /// The places at which each way to end was met, once for each time.
 pub struct Met<K> {

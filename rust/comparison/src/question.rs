@@ -1,20 +1,52 @@
 //! One query asked of both sides, with all that they return and write.
 
+use crate::broken::any_wanted;
 use crate::lent::{noise, Lent};
+use crate::met::Refusals;
+use crate::shapes::any_runs;
 use crate::Row;
 use quorum::{Counts, Refusal, Stopped};
-use reference::testing::Random;
+use reference::testing::{lay_out, Random, Wanted};
+use reference::Weighting;
 use std::fmt;
 
-/// The runs and the threshold of a query.
+/// The runs, the weights and the threshold of a query or a check.
 #[derive(Clone, Copy)]
 pub struct Question<'a> {
     /// All runs, one after another.
     pub numbers: &'a [u32],
     /// Where each run ends.
     pub ends: &'a [u32],
-    /// How many runs must hold an answer.
+    /// What the runs weigh. It tells which call is made.
+    pub weighting: Weighting<'a>,
+    /// How many runs must hold an answer, or how much they must weigh.
     pub threshold: u32,
+}
+
+impl<'a> Question<'a> {
+    /// A question in which every run counts for one.
+    pub fn plain(numbers: &'a [u32], ends: &'a [u32], threshold: u32) -> Self {
+        Question {
+            numbers,
+            ends,
+            weighting: Weighting::Plain,
+            threshold,
+        }
+    }
+
+    /// A question without weights or with them.
+    pub fn wanting(numbers: &'a [u32], ends: &'a [u32], wanted: &'a Wanted) -> Self {
+        Question {
+            weighting: wanted.weighting(),
+            ..Question::plain(numbers, ends, wanted.threshold)
+        }
+    }
+
+    /// The same about the runs that the mask chooses. Only checks have one.
+    pub fn choosing(self, mask: u64) -> Self {
+        let weighting = Weighting::Chosen(mask);
+        Question { weighting, ..self }
+    }
 }
 
 /// What a query is lent: probes, places for answers, certificate bytes.
@@ -33,11 +65,12 @@ impl fmt::Debug for Question<'_> {
         let Question {
             numbers,
             ends,
+            weighting,
             threshold,
         } = self;
         write!(
             f,
-            "threshold {threshold}, ends {:?}, numbers {:?}",
+            "{weighting:?}, threshold {threshold}, ends {:?}, numbers {:?}",
             Row(ends),
             Row(numbers)
         )
@@ -94,7 +127,7 @@ pub fn row_of(outcome: reference::Outcome) -> [u64; 7] {
             doublings,
             halvings,
         } => {
-            let parts = if number >= 5 { place } else { 0 };
+            let parts = if matches!(number, 5..=7) { place } else { 0 };
             let number = number.into();
             [number, place, answers, parts, bytes, doublings, halvings]
         }
@@ -129,14 +162,14 @@ impl Buffers {
 pub struct Comparer {
     found: Buffers,
     expected: Buffers,
-    /// How many questions ended with each refusal; 0 stands for accepted.
-    pub seen: [u64; 8],
+    /// How many questions ended with each refusal.
+    pub seen: Refusals,
     /// Compare the rows of the C interface and not the results.
     rows: bool,
 }
 
 impl Comparer {
-    /// Compares what [`quorum::query`] returns.
+    /// Compares what [`quorum::query`] or [`quorum::query_weighted`] returns.
     pub fn new() -> Self {
         Comparer::default()
     }
@@ -151,23 +184,24 @@ impl Comparer {
 
     /// How many questions were asked.
     pub fn asked(&self) -> u64 {
-        self.seen.iter().sum()
+        self.seen.all()
+    }
+
+    /// Each of the outcomes was met often enough.
+    pub fn met(&self, outcomes: &[usize], times: u64) {
+        self.seen.met("questions", outcomes, times);
     }
 
     /// Asks both sides and compares what they return and the whole of both
     /// buffers with their margins. Returns the outcome.
     pub fn compare(&mut self, seed: u64, question: Question, limits: Limits) -> reference::Outcome {
-        let Question {
-            numbers,
-            ends,
-            threshold,
-        } = question;
         self.found.fill(limits, seed);
         self.expected.fill(limits, seed);
-        let expected = reference::query(
-            numbers,
-            ends,
-            threshold,
+        let expected = reference::query_by(
+            question.numbers,
+            question.ends,
+            question.weighting,
+            question.threshold,
             limits.allowance,
             self.expected.answers.lend(),
             self.expected.certificate.lend(),
@@ -177,15 +211,32 @@ impl Comparer {
         let allowance = limits.allowance;
         let context = || format!("seed {seed}: {limits:?}, {question:?}");
         if self.rows {
-            let row = quorum::ffi::query(numbers, ends, threshold, allowance, answers, certificate);
+            let row = ask_row(question, allowance, answers, certificate);
             assert_eq!(row, row_of(expected), "{}", context());
         } else {
-            let result = quorum::query(numbers, ends, threshold, allowance, answers, certificate);
+            let result = ask(question, allowance, answers, certificate);
             assert_eq!(result, result_of(expected), "{}", context());
         }
         self.found.compare(&self.expected, context);
-        self.seen[row_of(expected)[0] as usize] += 1;
+        self.seen.count(row_of(expected)[0]);
         expected
+    }
+
+    /// Asks the library two questions that come to the same, and compares what
+    /// it returns and the whole of both buffers with their margins.
+    pub fn compare_same(&mut self, seed: u64, questions: [Question; 2], limits: Limits) {
+        let ask_into = |question, buffers: &mut Buffers| {
+            buffers.fill(limits, seed);
+            let (answers, certificate) = (buffers.answers.lend(), buffers.certificate.lend());
+            ask(question, limits.allowance, answers, certificate)
+        };
+        let found = ask_into(questions[0], &mut self.found);
+        let expected = ask_into(questions[1], &mut self.expected);
+        let context = || format!("seed {seed}: {limits:?}, {questions:?}");
+        assert_eq!(found, expected, "{}", context());
+        self.found.compare(&self.expected, context);
+        let number = found.map_or_else(|stopped| stopped.refusal.number, |_| 0);
+        self.seen.count(number);
     }
 
     /// Asks with limits of every kind: exact, one short, one more, tiny, ample
@@ -206,9 +257,53 @@ impl Comparer {
     }
 }
 
+/// Asks the library.
+pub fn ask(
+    question: Question,
+    allowance: u32,
+    answers: &mut [u32],
+    certificate: &mut [u8],
+) -> Result<Counts, Stopped> {
+    let (n, e, t) = (question.numbers, question.ends, question.threshold);
+    match question.weighting {
+        Weighting::Plain => quorum::query(n, e, t, allowance, answers, certificate),
+        Weighting::Given(weights) => {
+            quorum::query_weighted(n, e, weights, t, allowance, answers, certificate)
+        }
+        Weighting::Chosen(_) => panic!("a single question is about all runs"),
+    }
+}
+
+/// The same with the row that the C interface writes.
+fn ask_row(
+    question: Question,
+    allowance: u32,
+    answers: &mut [u32],
+    certificate: &mut [u8],
+) -> [u64; 7] {
+    let (n, e, t) = (question.numbers, question.ends, question.threshold);
+    match question.weighting {
+        Weighting::Plain => quorum::ffi::query(n, e, t, allowance, answers, certificate),
+        Weighting::Given(weights) => {
+            quorum::ffi::query_weighted(n, e, weights, t, allowance, answers, certificate)
+        }
+        Weighting::Chosen(_) => panic!("a single question is about all runs"),
+    }
+}
+
+/// The reference's whole walk, or its refusal.
+pub fn walk_of(question: Question) -> Result<reference::Trace, reference::Refusal> {
+    reference::trace_by(
+        question.numbers,
+        question.ends,
+        question.weighting,
+        question.threshold,
+    )
+}
+
 /// Exactly what the whole walk needs; `None` if the first checks refuse.
 pub fn whole(question: Question) -> Option<Limits> {
-    let trace = reference::trace(question.numbers, question.ends, question.threshold).ok()?;
+    let trace = walk_of(question).ok()?;
     let is_answer = |part: &&reference::Part| matches!(part, reference::Part::Answer { .. });
     let answers = trace.parts.iter().filter(is_answer).count();
     Some(Limits {
@@ -263,4 +358,24 @@ pub fn limits_near(random: &mut Random, whole: Limits) -> Vec<Limits> {
         bytes: whole.bytes + random.below(30),
     });
     all
+}
+
+/// Asks about random runs, with weights or without, with limits of every kind.
+pub fn compare_random(
+    mut comparer: Comparer,
+    weighted: bool,
+    seeds: impl Iterator<Item = u64>,
+    runs: [usize; 2],
+    length: usize,
+) -> Comparer {
+    for seed in seeds {
+        let mut random = Random(seed);
+        let k = random.from_to(runs[0], runs[1]);
+        let length = random.below(length + 1);
+        let (numbers, ends) = lay_out(&any_runs(&mut random, k, length));
+        let wanted = any_wanted(&mut random, k, weighted);
+        let question = Question::wanting(&numbers, &ends, &wanted);
+        comparer.compare_limits(seed, &mut random, question);
+    }
+    comparer
 }

@@ -1,15 +1,15 @@
 //! The bound 2 × d × b on the probes of a run, b being the digits of the number
 //! of its bins, against the fewest parts of any true certificate, found without
-//! the walk.
+//! the walk: by the number of runs and by their weights.
 
 use comparison::many::{self, whole as whole_many, Call};
-use comparison::question::{whole, Comparer, Limits, Question};
+use comparison::question::{walk_of, whole, Comparer, Limits, Question};
 use comparison::seeds;
 use comparison::shapes::any_runs;
 use quorum::{probe_bound, probe_bound_chosen};
-use reference::testing::{choose, lay_out, slices, Random};
+use reference::testing::{any_weights, lay_out, slices, Random, Wanted};
 use reference::{
-    all_runs, bins, digits, fewest_parts, is_true, trace, trace_chosen, Outcome, Probes,
+    all_runs, bins, digits, fewest_parts_by, is_true_by, trace_by, Outcome, Probes, Weighting,
 };
 
 /// Bounds summed up over runs.
@@ -32,20 +32,22 @@ impl Sums {
     }
 }
 
-/// Compares one walk with the fewest parts possible, at every threshold.
-fn within_the_bound(seed: u64, runs: &[Vec<u32>]) {
+/// Compares walks with the fewest parts possible, at every threshold, and for as
+/// many wanted weights.
+fn within_the_bound(seed: u64, random: &mut Random, runs: &[Vec<u32>]) {
     let (numbers, ends) = lay_out(runs);
     let mut comparer = Comparer::new();
-    for threshold in 1..=runs.len() as u32 {
-        let question = Question {
-            numbers: &numbers,
-            ends: &ends,
-            threshold,
-        };
+    let thresholds = 1..=runs.len() as u32;
+    let weights = any_weights(random, runs.len());
+    let weighted = thresholds.clone();
+    let weighted = weighted.map(|_| Wanted::any_of(random, &weights));
+    for wanted in thresholds.map(Wanted::plain).chain(weighted) {
+        let (weighting, threshold) = (wanted.weighting(), wanted.threshold);
+        let question = Question::wanting(&numbers, &ends, &wanted);
         let context = || format!("seed {seed}: {question:?}");
-        let fewest = fewest_parts(&slices(runs), threshold);
-        let walk = trace(&numbers, &ends, threshold).unwrap();
-        assert!(is_true(&slices(runs), threshold, &walk.parts));
+        let fewest = fewest_parts_by(&slices(runs), weighting, threshold);
+        let walk = walk_of(question).unwrap();
+        assert!(is_true_by(&slices(runs), weighting, threshold, &walk.parts));
 
         let mut sums = Sums::default();
         for (run, &probes) in runs.iter().zip(&walk.probes) {
@@ -107,7 +109,7 @@ fn random_walks(group: u64, cases: u64, [fewest, most]: [usize; 2], length: usiz
         let mut random = Random(seed);
         let k = random.from_to(fewest, most);
         let runs = any_runs(&mut random, k, length);
-        within_the_bound(seed, &runs);
+        within_the_bound(seed, &mut random, &runs);
     }
 }
 
@@ -136,8 +138,9 @@ fn chosen_within_the_bound(seed: u64, random: &mut Random, runs: &[Vec<u32>]) {
         let threshold = random.from_to(1, mask.count_ones() as usize) as u32;
         call.masks.push(mask);
         call.thresholds.push(threshold);
-        let fewest = fewest_parts(&choose(runs, mask), threshold) as u32;
-        let walk = trace_chosen(&call.numbers, &call.ends, mask, threshold).unwrap();
+        let weighting = Weighting::Chosen(mask);
+        let fewest = fewest_parts_by(&slices(runs), weighting, threshold) as u32;
+        let walk = trace_by(&call.numbers, &call.ends, weighting, threshold).unwrap();
         let mut sums = Sums::default();
         for (i, (run, &probes)) in runs.iter().zip(&walk.probes).enumerate() {
             let bound = match mask >> i & 1 {

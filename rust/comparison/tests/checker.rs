@@ -1,16 +1,18 @@
-//! The checker: true certificates of every form and damaged ones.
+//! The checker, without weights and with them: true certificates of every form
+//! and damaged ones.
 
-use comparison::broken::{any_threshold, break_rows};
+use comparison::broken::{any_broken, any_wanted, break_rows};
 use comparison::certificates::Task;
-use comparison::question::Question;
+use comparison::question::{walk_of, Question};
 use comparison::seeds;
 use comparison::shapes::{any_runs, shaped_runs, Shape, SHAPES};
-use comparison::verdicts::{self, walks_own, Seen};
+use comparison::verdicts::{self, walks_own, Kind, Seen};
 use quorum::Refusal;
 use reference::testing::{
-    checked_instances, gap, hit, lay_out, marked_three_runs, slices, Random, M, THREE_RUNS,
+    any_weights, checked_instances, gap, hit, lay_out, marked_three_runs, slices, weighted_checks,
+    Random, Wanted, M, THREE_RUNS,
 };
-use reference::{all_runs, encode, trace};
+use reference::{encode, Weighting};
 
 /// The instances of docs/SPECIFICATION.md.
 #[test]
@@ -28,78 +30,96 @@ fn every_instance() {
     }
 }
 
-/// With all runs chosen.
-fn compare_random(group: u64, cases: u64, runs: [usize; 2], length: usize) -> Seen {
-    verdicts::compare_random(|_, k| all_runs(k), seeds(group, cases), runs, length)
+/// Those with weights, each checked without weights too.
+#[test]
+fn every_instance_with_weights() {
+    for runs in marked_three_runs() {
+        let (numbers, ends) = lay_out(&runs);
+        let mut seen = Seen::default();
+        for (weights, wanted, bytes, expected) in weighted_checks() {
+            let verdict = reference::check_weighted(&numbers, &ends, &weights, wanted, &bytes);
+            assert_eq!(verdict, expected);
+            let mut question = Question::plain(&numbers, &ends, wanted);
+            seen.compare(0, question, &bytes);
+            question.weighting = Weighting::Given(&weights);
+            seen.compare(0, question, &bytes);
+        }
+        seen.met(&[0, 2, 9, 10, 11, 17], 1);
+    }
+}
+
+/// Without weights and with them. Each certificate is judged by both checkers,
+/// and many are true for one alone.
+fn compare_random(group: u64, cases: u64, runs: [usize; 2], length: usize, met: [u64; 2]) {
+    let mut true_of_one = [0; 2];
+    for kind in [Kind::Plain, Kind::Weighted] {
+        let seen = verdicts::compare_random(kind, seeds(group, cases), runs, length);
+        seen.met(&[0, 8, 9, 10, 11], met[0]);
+        true_of_one[0] += seen.true_of_one[0];
+        true_of_one[1] += seen.true_of_one[1];
+    }
+    println!("true by weight alone and without weights alone: {true_of_one:?}");
+    assert!(true_of_one.iter().all(|&count| count >= met[1]));
 }
 
 #[test]
 fn few_short_runs() {
-    let seen = compare_random(41, 20_000, [1, 5], 6);
-    assert!(seen.all() > 250_000);
-    seen.met(&[0, 8, 9, 10, 11], 5_000);
+    compare_random(41, 20_000, [1, 5], 6, [20_000, 30_000]);
 }
 
 #[test]
 fn more_runs() {
-    let seen = compare_random(42, 6_000, [5, 20], 10);
-    assert!(seen.all() > 75_000);
-    seen.met(&[0, 8, 9, 10, 11], 1_000);
+    compare_random(42, 6_000, [5, 20], 10, [5_000, 15_000]);
 }
 
 #[test]
 fn most_runs() {
-    let seen = compare_random(43, 500, [60, 64], 12);
-    seen.met(&[0, 8, 9, 10, 11], 100);
+    compare_random(43, 500, [60, 64], 12, [500, 1_000]);
 }
 
 #[test]
 fn long_runs() {
-    let seen = compare_random(44, 60, [1, 4], 300);
-    seen.met(&[0, 8, 9, 10, 11], 10);
+    compare_random(44, 60, [1, 4], 300, [50, 50]);
 }
 
-/// The true certificate of three runs with each byte set to each value.
+/// The true certificates of three runs, without weights and with them.
 #[test]
 fn every_byte() {
-    let task = Task::of_all(&THREE_RUNS, 2);
-    let whole = encode(&walks_own(task));
-    let mut seen = Seen::default();
-    for place in 0..whole.len() {
-        for value in 0..=255 {
-            let mut bytes = whole.clone();
-            bytes[place] = value;
-            seen.compare_with_truth(0, task, &bytes);
-        }
-        seen.compare_with_truth(0, task, &whole[..place]);
-        seen.compare_with_truth(0, task, &[&whole[..], &whole[..=place]].concat());
-        seen.compare_with_truth(0, task, &[&whole[..place], &whole[place + 1..]].concat());
+    for wanted in [Wanted::plain(2), Wanted::weighted(&[3, 1, 1], 3)] {
+        let task = Task::wanting(&THREE_RUNS, &wanted);
+        let mut seen = Seen::default();
+        seen.compare_every_byte(task, &encode(&walks_own(task)));
+        seen.met(&[0, 8, 9, 10, 11], 50);
     }
-    seen.met(&[0, 8, 9, 10, 11], 50);
 }
 
 /// The first checks come before the certificate.
 #[test]
 fn first_checks() {
-    let mut seen = Seen::default();
-    for seed in seeds(45, 40_000) {
-        let mut random = Random(seed);
-        let k = random.pick(&[0, 1, 2, 3, 4, 8, 63, 64, 65, 66]);
-        let length = random.below(8);
-        let (mut numbers, mut ends) = lay_out(&any_runs(&mut random, k, length));
-        let threshold = any_threshold(&mut random, ends.len());
-        let own = trace(&numbers, &ends, threshold).map_or(Vec::new(), |walk| walk.parts);
-        for _ in 0..random.from_to(0, 3) {
-            break_rows(&mut random, &mut numbers, &mut ends);
+    for weighted in [false, true] {
+        let mut seen = Seen::default();
+        for seed in seeds(45, 40_000) {
+            let mut random = Random(seed);
+            let k = random.pick(&[0, 1, 2, 3, 4, 8, 63, 64, 65, 66]);
+            let length = random.below(8);
+            let (mut numbers, mut ends) = lay_out(&any_runs(&mut random, k, length));
+            let wanted = any_wanted(&mut random, k, weighted);
+            let own = walk_of(Question::wanting(&numbers, &ends, &wanted));
+            let own = own.map_or(Vec::new(), |walk| walk.parts);
+            for _ in 0..random.from_to(0, 3) {
+                break_rows(&mut random, &mut numbers, &mut ends);
+            }
+            // Now and then it is checked for other weights, or for bad ones.
+            let wanted = match random.one_in(4) && weighted {
+                true => any_broken(&mut random, ends.len(), weighted),
+                false => wanted,
+            };
+            let question = Question::wanting(&numbers, &ends, &wanted);
+            seen.compare(seed, question, &encode(&own));
         }
-        let question = Question {
-            numbers: &numbers,
-            ends: &ends,
-            threshold,
-        };
-        seen.compare(seed, question, &encode(&own));
+        seen.met(&[0, 1, 2, 3, 4, 9, 10, 11], 50);
+        seen.met(&[17], if weighted { 5_000 } else { 0 });
     }
-    seen.met(&[0, 1, 2, 3, 4, 9, 10, 11], 50);
 }
 
 /// Certificates that a checker going back to the front of a run for each part
@@ -122,13 +142,14 @@ fn most_numbers() {
             room -= run.len();
         }
         let (numbers, ends) = lay_out(&runs);
-        for threshold in [1, k as u32] {
-            let question = Question {
-                numbers: &numbers,
-                ends: &ends,
-                threshold,
-            };
-            let parts = trace(&numbers, &ends, threshold).unwrap().parts;
+        let weights = any_weights(&mut random, k);
+        for wanted in [
+            Wanted::plain(1),
+            Wanted::plain(k as u32),
+            Wanted::any_of(&mut random, &weights),
+        ] {
+            let question = Question::wanting(&numbers, &ends, &wanted);
+            let parts = walk_of(question).unwrap().parts;
             let mut bytes = encode(&parts);
             assert_eq!(seen.compare(seed, question, &bytes), 0);
             let middle = bytes.len() / 2;
@@ -136,33 +157,22 @@ fn most_numbers() {
             seen.compare(seed, question, &bytes);
         }
     }
-    assert_eq!(seen.0[0], 12);
+    assert_eq!(seen.refusals[0], 18);
 }
 
-/// Every mask of three runs, in a gap and in an answer.
+/// With every threshold, and with every wanted weight of some weights.
 #[test]
 fn every_mask() {
     let mut seen = Seen::default();
     let runs: [&[u32]; 3] = [&[7], &[7, 8], &[8]];
-    for threshold in 1..=3 {
-        let task = Task::of_all(&runs, threshold);
-        for mask in (0..16).chain([1 << 63, u64::MAX, 7 | 1 << 62]) {
-            let all = 7;
-            for value in [6, 7, 8, 9] {
-                let parts = [
-                    gap(1, value - 1, all),
-                    hit(value, mask),
-                    gap(value + 1, M, mask),
-                ];
-                for kept in 1..=3 {
-                    seen.compare_with_truth(0, task, &encode(&parts[..kept]));
-                }
-                let joined = [gap(1, value, mask), parts[2]];
-                seen.compare_with_truth(0, task, &encode(&joined));
-            }
-        }
+    let mut all: Vec<Wanted> = (1..=3).map(Wanted::plain).collect();
+    for weights in [[1, 2, 3], [3, 1, 1], [2, 2, 1], [5, 9, 2]] {
+        all.extend((1..=weights.iter().sum()).map(|wanted| Wanted::weighted(&weights, wanted)));
     }
-    seen.met(&[9, 10, 11], 10);
+    for wanted in &all {
+        seen.compare_every_mask(Task::wanting(&runs, wanted));
+    }
+    seen.met(&[9, 10, 11], 100);
 }
 
 #[test]

@@ -4,15 +4,14 @@
 use comparison::broken::{any_threshold, break_rows};
 use comparison::certificates::Task;
 use comparison::many::any_choice;
-use comparison::question::Question;
+use comparison::question::{walk_of, Question};
 use comparison::seeds;
 use comparison::shapes::any_runs;
-use comparison::verdicts::{self, walks_own, Seen};
+use comparison::verdicts::{self, walks_own, Kind, Seen};
 use reference::testing::{
-    chosen_instances, gap, hit, lay_out, marked_three_runs, slices, Random, FIRST_TWO_PARTS, M,
-    THREE_RUNS,
+    chosen_instances, lay_out, marked_three_runs, slices, Random, FIRST_TWO_PARTS, THREE_RUNS,
 };
-use reference::{all_runs, encode, trace_chosen};
+use reference::{all_runs, encode};
 
 #[test]
 fn every_instance() {
@@ -21,12 +20,8 @@ fn every_instance() {
         for (mask, threshold, bytes, expected) in chosen_instances() {
             let verdict = reference::check_chosen(&numbers, &ends, mask, threshold, &bytes);
             assert_eq!(verdict, expected);
-            let question = Question {
-                numbers: &numbers,
-                ends: &ends,
-                threshold,
-            };
-            seen.compare_chosen(0, question, mask, &bytes);
+            let question = Question::plain(&numbers, &ends, threshold);
+            seen.compare(0, question.choosing(mask), &bytes);
         }
         seen.met(&[0, 2, 9, 10, 11, 13], 1);
     }
@@ -34,7 +29,7 @@ fn every_instance() {
 
 /// With some runs chosen.
 fn compare_random(group: u64, cases: u64, runs: [usize; 2], length: usize) -> Seen {
-    verdicts::compare_random(any_choice, seeds(group, cases), runs, length)
+    verdicts::compare_random(Kind::Chosen, seeds(group, cases), runs, length)
 }
 
 #[test]
@@ -73,20 +68,16 @@ fn all_runs_chosen() {
         let runs = slices(&runs);
         let task = Task::of_all(&runs, random.from_to(1, k) as u32);
         let (numbers, ends) = lay_out(&runs);
-        let question = Question {
-            numbers: &numbers,
-            ends: &ends,
-            threshold: task.threshold,
-        };
+        let question = Question::plain(&numbers, &ends, task.threshold);
         let mut parts = walks_own(task);
         for _ in 0..random.below(3) {
             task.damage_parts(&mut random, &mut parts);
         }
         let bytes = encode(&parts);
-        let with_mask = seen.compare_chosen(seed, question, task.chosen, &bytes);
+        let with_mask = seen.compare(seed, question.choosing(task.chosen()), &bytes);
         assert_eq!(with_mask, seen.compare(seed, question, &bytes));
         let check = quorum::check(&numbers, &ends, task.threshold, &bytes);
-        let chosen = quorum::check_chosen(&numbers, &ends, task.chosen, task.threshold, &bytes);
+        let chosen = quorum::check_chosen(&numbers, &ends, all_runs(k), task.threshold, &bytes);
         assert_eq!(check, chosen, "seed {seed}");
     }
     seen.met(&[0, 9, 10, 11], 500);
@@ -108,7 +99,7 @@ fn first_checks() {
             _ => any_choice(&mut random, k.max(1)),
         };
         let threshold = any_threshold(&mut random, mask.count_ones() as usize);
-        let own = trace_chosen(&numbers, &ends, mask, threshold);
+        let own = walk_of(Question::plain(&numbers, &ends, threshold).choosing(mask));
         let own = own.map_or(Vec::new(), |walk| walk.parts);
         // Now and then it is checked for other runs.
         let mask = match random.one_in(6) {
@@ -118,66 +109,32 @@ fn first_checks() {
         for _ in 0..random.from_to(0, 2) {
             break_rows(&mut random, &mut numbers, &mut ends);
         }
-        let question = Question {
-            numbers: &numbers,
-            ends: &ends,
-            threshold,
-        };
-        seen.compare_chosen(seed, question, mask, &encode(&own));
+        let question = Question::plain(&numbers, &ends, threshold);
+        seen.compare(seed, question.choosing(mask), &encode(&own));
     }
     seen.met(&[0, 1, 2, 3, 4, 9, 10, 11, 13], 50);
 }
 
-/// Every choice of three runs with every mask of a gap and of an answer.
+/// With every choice of three runs and every threshold.
 #[test]
 fn every_mask() {
     let mut seen = Seen::default();
     let runs: [&[u32]; 3] = [&[7], &[7, 8], &[8]];
     for chosen in 1..=all_runs(3) {
         for threshold in 1..=chosen.count_ones() {
-            let task = Task {
-                runs: &runs,
-                chosen,
-                threshold,
-            };
-            for mask in (0..16).chain([1 << 63, u64::MAX, 7 | 1 << 62]) {
-                for value in [6, 7, 8, 9] {
-                    let parts = [
-                        gap(1, value - 1, chosen),
-                        hit(value, mask),
-                        gap(value + 1, M, mask),
-                    ];
-                    for kept in 1..=3 {
-                        seen.compare_with_truth(0, task, &encode(&parts[..kept]));
-                    }
-                    let joined = [gap(1, value, mask), parts[2]];
-                    seen.compare_with_truth(0, task, &encode(&joined));
-                }
-            }
+            seen.compare_every_mask(Task::of_chosen(&runs, chosen, threshold));
         }
     }
     seen.met(&[9, 10, 11], 100);
 }
 
-/// The certificate of the first two of three runs with each byte set to each
-/// value.
+/// The certificate of the first two of three runs.
 #[test]
 fn every_byte() {
-    let task = Task {
-        runs: &THREE_RUNS,
-        chosen: 3,
-        threshold: 2,
-    };
+    let task = Task::of_chosen(&THREE_RUNS, 3, 2);
     let whole = encode(&FIRST_TWO_PARTS);
     assert_eq!(whole, encode(&walks_own(task)));
     let mut seen = Seen::default();
-    for place in 0..whole.len() {
-        for value in 0..=255 {
-            let mut bytes = whole.clone();
-            bytes[place] = value;
-            seen.compare_with_truth(0, task, &bytes);
-        }
-        seen.compare_with_truth(0, task, &whole[..place]);
-    }
+    seen.compare_every_byte(task, &whole);
     seen.met(&[0, 8, 9, 10, 11], 20);
 }

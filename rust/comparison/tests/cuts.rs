@@ -4,11 +4,11 @@
 
 use comparison::cuts::Cuts;
 use comparison::many::{self, whole as whole_many, Call};
-use comparison::question::{row_of, whole, Comparer, Limits, Question};
+use comparison::question::{row_of, walk_of, whole, Comparer, Limits, Question};
 use comparison::seeds;
 use comparison::shapes::any_runs;
-use reference::testing::{lay_out, Random};
-use reference::{trace, trace_chosen, Probes};
+use reference::testing::{lay_out, Random, Wanted};
+use reference::{trace_by, Probes, Weighting};
 
 /// Runs in which searches go from a step to far.
 fn searched_runs(random: &mut Random, k: usize) -> Vec<Vec<u32>> {
@@ -16,20 +16,22 @@ fn searched_runs(random: &mut Random, k: usize) -> Vec<Vec<u32>> {
     any_runs(random, k, length)
 }
 
+/// Without weights, and with them in half of all cases.
 #[test]
 fn single_questions() {
     let mut comparers = [Comparer::new(), Comparer::of_rows()];
     let mut cuts = Cuts::default();
-    for seed in seeds(111, 4_000) {
+    for seed in seeds(111, 6_000) {
         let mut random = Random(seed);
         let k = random.from_to(2, 6);
         let (numbers, ends) = lay_out(&searched_runs(&mut random, k));
-        let question = Question {
-            numbers: &numbers,
-            ends: &ends,
-            threshold: random.from_to(2, k) as u32,
+        let wanted = match Wanted::any(&mut random, k) {
+            // One run of two or more needs no search.
+            wanted if wanted.threshold > 1 => wanted,
+            _ => Wanted::plain(2),
         };
-        let walk = trace(&numbers, &ends, question.threshold).unwrap();
+        let question = Question::wanting(&numbers, &ends, &wanted);
+        let walk = walk_of(question).unwrap();
         let whole = whole(question).unwrap();
         for made in cuts.any_of_each(&mut random, walk.searches) {
             let limits = Limits {
@@ -60,9 +62,9 @@ fn many_questions() {
         let questions = random.from_to(2, 5);
         let call = Call::any(&mut random, &runs, questions);
         let asked = call.masks.iter().zip(&call.thresholds);
+        let walk = |(&mask, &t)| trace_by(&call.numbers, &call.ends, Weighting::Chosen(mask), t);
         let walks: Vec<Vec<Probes>> = asked
-            .map(|(&mask, &t)| trace_chosen(&call.numbers, &call.ends, mask, t).unwrap())
-            .map(|walk| walk.searches)
+            .map(|question| walk(question).unwrap().searches)
             .collect();
         let whole = whole_many(&call).unwrap();
         for made in cuts.any_of_each(&mut random, walks.concat()) {

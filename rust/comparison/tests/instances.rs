@@ -1,6 +1,6 @@
 //! The instances of docs/SPECIFICATION.md with their answers, on both sides.
 
-use comparison::question::{result_of, Comparer, Limits, Question};
+use comparison::question::{ask, result_of, Comparer, Limits, Question};
 use reference::encode;
 use reference::testing::{instances, lay_out, Instance, M};
 
@@ -15,21 +15,10 @@ fn expect(instance: &Instance, allowance: u32) {
         answers: answers.len(),
         bytes: certificate.len(),
     };
-    let question = Question {
-        numbers: &numbers,
-        ends: &ends,
-        threshold: instance.threshold,
-    };
+    let question = Question::wanting(&numbers, &ends, &instance.wanted);
     Comparer::new().compare(0, question, limits);
     Comparer::of_rows().compare(0, question, limits);
-    let result = quorum::query(
-        &numbers,
-        &ends,
-        instance.threshold,
-        allowance,
-        &mut answers,
-        &mut certificate,
-    );
+    let result = ask(question, allowance, &mut answers, &mut certificate);
     assert_eq!(result, result_of(instance.outcome), "{name}");
     let counts = result.unwrap_or_else(|stopped| stopped.counts);
     assert_eq!(counts.parts, instance.parts.len(), "{name}");
@@ -57,11 +46,7 @@ fn every_instance() {
 #[test]
 fn no_room_where_none_is_needed() {
     let (numbers, ends) = lay_out(&[vec![1, 2, 3], vec![4, 5, 6]]);
-    let question = Question {
-        numbers: &numbers,
-        ends: &ends,
-        threshold: 2,
-    };
+    let question = Question::plain(&numbers, &ends, 2);
     let limits = Limits {
         allowance: 2,
         answers: 0,

@@ -7,7 +7,7 @@ use comparison::certificates::Task;
 use comparison::many::{self, Call};
 use comparison::question::{whole, Comparer, Limits, Question};
 use comparison::verdicts::{walks_own, Seen};
-use reference::testing::{gap, lay_out, marked, slices, M};
+use reference::testing::{gap, lay_out, marked, slices, Wanted, M};
 use reference::{all_runs, bins, encode, first_checks, Refusal, MAX_NUMBERS, MAX_RUNS};
 
 /// What limits are lent where the first checks refuse.
@@ -33,23 +33,23 @@ impl Calls {
         }
     }
 
-    /// Compares a question, many questions, checks for all runs and for chosen
-    /// ones, and parts of each run. Returns the refusal of the first checks, which
-    /// all of these make.
+    /// Compares a question, the same with weights, many questions, checks for all
+    /// runs, by weight and for chosen runs, and parts of each run. Returns the
+    /// refusal of the first checks, which all of these make.
     fn compare(&mut self, runs: &[Vec<u32>], threshold: u32) -> Option<Refusal> {
         let (numbers, ends) = lay_out(runs);
-        let question = Question {
-            numbers: &numbers,
-            ends: &ends,
-            threshold,
-        };
         let refusal = first_checks(&numbers, &ends, threshold).err();
-        let limits = whole(question).unwrap_or(SOME);
-        for comparer in &mut self.single {
-            comparer.compare(0, question, limits);
+        let weights: Vec<u32> = (0..runs.len()).map(|i| 1 + 84 * (i as u32 % 4)).collect();
+        let weight = weights[..threshold as usize].iter().sum();
+        for wanted in [Wanted::plain(threshold), Wanted::weighted(&weights, weight)] {
+            let question = Question::wanting(&numbers, &ends, &wanted);
+            let limits = whole(question).unwrap_or(SOME);
+            for comparer in &mut self.single {
+                comparer.compare(0, question, limits);
+            }
+            self.compare_checks(runs, question, refusal.is_none());
         }
         self.compare_many(runs, threshold);
-        self.compare_checks(runs, question, refusal.is_none());
         for run in runs {
             for (first, last) in [(0, M), (0, 0), (1, 9), (M, M)] {
                 between::compare(0, run, first, last);
@@ -79,25 +79,21 @@ impl Calls {
             true => encode(&walks_own(task)),
             false => vec![7],
         };
-        let all = Task::of_all(&runs, question.threshold);
+        let all = Task {
+            runs: &runs,
+            weighting: question.weighting,
+            threshold: question.threshold,
+        };
         let number = self.checked.compare(0, question, &own(all));
         assert_eq!(number == 0, is_walked);
         let number = self
             .checked
-            .compare(0, question, &encode(&[gap(1, M, all.chosen)]));
+            .compare(0, question, &encode(&[gap(1, M, all.chosen())]));
         let is_empty = runs.iter().all(|run| bins(run).is_empty());
         assert_eq!(number == 0, is_walked && is_empty);
-        let first = Task {
-            chosen: 1,
-            threshold: 1,
-            ..all
-        };
-        let question = Question {
-            threshold: first.threshold,
-            ..question
-        };
-        self.checked
-            .compare_chosen(0, question, first.chosen, &own(first));
+        let first = Task::of_chosen(&runs, 1, 1);
+        let question = Question::plain(question.numbers, question.ends, 1);
+        self.checked.compare(0, question.choosing(1), &own(first));
     }
 }
 
@@ -189,6 +185,6 @@ fn most_numbers() {
         };
         assert_eq!(calls.compare(&runs, 1), expected);
     }
-    assert_eq!(calls.single[0].seen[3], 4);
-    assert_eq!(calls.single[0].seen[4], 3);
+    assert_eq!(calls.single[0].seen[3], 2 * 4);
+    assert_eq!(calls.single[0].seen[4], 2 * 3);
 }

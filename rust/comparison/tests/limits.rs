@@ -1,13 +1,13 @@
 //! Buffers and allowances that are exactly enough, one too small, and always
 //! enough.
 
-use comparison::question::{result_of, whole, Comparer, Limits, Question};
+use comparison::question::{self, result_of, whole, Comparer, Limits, Question};
 use comparison::seeds;
 use comparison::shapes::{any_runs, shaped_runs, SHAPES};
 use quorum::{
     enough_answers, enough_bytes, Counts, Refusal, Stopped, ENOUGH_PROBES, MAX_NUMBERS, MAX_RUNS,
 };
-use reference::testing::{lay_out, Random, THREE_RUNS};
+use reference::testing::{any_weights, lay_out, Random, Wanted, THREE_RUNS};
 use reference::{bins, digits};
 
 /// The limits with one less of each that is above 0, and the refusal that is
@@ -36,15 +36,12 @@ fn one_less(limits: Limits) -> impl Iterator<Item = (u64, Limits)> {
 #[test]
 fn exactly_used_up() {
     let mut comparer = Comparer::new();
-    for seed in seeds(71, 6_000) {
+    for seed in seeds(71, 10_000) {
         let mut random = Random(seed);
         let k = random.pick(&[1, 2, 3, 5, 9, 64]);
         let (numbers, ends) = lay_out(&any_runs(&mut random, k, 8));
-        let question = Question {
-            numbers: &numbers,
-            ends: &ends,
-            threshold: random.from_to(1, k) as u32,
-        };
+        let wanted = Wanted::any(&mut random, k);
+        let question = Question::wanting(&numbers, &ends, &wanted);
         let limits = whole(question).unwrap();
         let outcome = comparer.compare(seed, question, limits);
         let counts = result_of(outcome).unwrap();
@@ -57,31 +54,20 @@ fn exactly_used_up() {
             assert_eq!(stopped.refusal.number, number, "seed {seed}");
         }
     }
-    let seen = comparer.seen;
-    assert!([0, 5, 6, 7].iter().all(|&i| seen[i] > 2_000), "{seen:?}");
+    comparer.met(&[0, 5, 6, 7], 3_000);
 }
 
 /// Asks the library alone, with buffers of its own.
 fn ask(question: Question, limits: Limits) -> Result<Counts, Stopped> {
-    quorum::query(
-        question.numbers,
-        question.ends,
-        question.threshold,
-        limits.allowance,
-        &mut vec![0; limits.answers],
-        &mut vec![0; limits.bytes],
-    )
+    let (mut answers, mut certificate) = (vec![0; limits.answers], vec![0; limits.bytes]);
+    question::ask(question, limits.allowance, &mut answers, &mut certificate)
 }
 
 /// The same of one question, in numbers.
 #[test]
 fn three_runs() {
     let (numbers, ends) = lay_out(&THREE_RUNS);
-    let question = Question {
-        numbers: &numbers,
-        ends: &ends,
-        threshold: 2,
-    };
+    let question = Question::plain(&numbers, &ends, 2);
     let exact = Limits {
         allowance: 3,
         answers: 2,
@@ -118,13 +104,9 @@ fn enough_probes(runs: &[Vec<u32>]) -> [u64; 2] {
 }
 
 /// Asks with no more than the documentation calls enough.
-fn within_enough(comparer: &mut Comparer, seed: u64, runs: &[Vec<u32>], threshold: u32) {
+fn within_enough(comparer: &mut Comparer, seed: u64, runs: &[Vec<u32>], wanted: &Wanted) {
     let (numbers, ends) = lay_out(runs);
-    let question = Question {
-        numbers: &numbers,
-        ends: &ends,
-        threshold,
-    };
+    let question = Question::wanting(&numbers, &ends, wanted);
     let [each, all] = enough_probes(runs);
     assert!(each <= all && all <= ENOUGH_PROBES.into(), "seed {seed}");
     let limits = Limits {
@@ -145,8 +127,8 @@ fn always_enough() {
         let k = random.pick(&[1, 2, 3, 4, 7, 20, 64]);
         let length = random.pick(&[1, 2, 3, 8, 30]);
         let runs = any_runs(&mut random, k, length);
-        let threshold = random.from_to(1, k) as u32;
-        within_enough(&mut comparer, seed, &runs, threshold);
+        let wanted = Wanted::any(&mut random, k);
+        within_enough(&mut comparer, seed, &runs, &wanted);
     }
 }
 
@@ -162,13 +144,20 @@ fn always_enough_for_most_numbers() {
             run.truncate(room);
             room -= run.len();
         }
-        for threshold in [1, 2, k as u32] {
-            within_enough(&mut comparer, seed, &runs, threshold);
+        let weights = any_weights(&mut random, k);
+        for wanted in [
+            Wanted::plain(1),
+            Wanted::plain(2),
+            Wanted::plain(k as u32),
+            Wanted::any_of(&mut random, &weights),
+        ] {
+            within_enough(&mut comparer, seed, &runs, &wanted);
         }
     }
     let most = [(1..=MAX_NUMBERS as u32).collect()];
     assert_eq!(enough_probes(&most), [ENOUGH_PROBES.into(); 2]);
-    within_enough(&mut comparer, 0, &most, 1);
+    within_enough(&mut comparer, 0, &most, &Wanted::plain(1));
+    within_enough(&mut comparer, 0, &most, &Wanted::weighted(&[255], 255));
 }
 
 /// One run of numbers with gaps between them needs all the room.
@@ -177,11 +166,7 @@ fn no_room_to_spare() {
     for n in 0..20 {
         let run: Vec<u32> = (1..=n).map(|i| 2 * i).collect();
         let ends = [n];
-        let question = Question {
-            numbers: &run,
-            ends: &ends,
-            threshold: 1,
-        };
+        let question = Question::plain(&run, &ends, 1);
         let limits = whole(question).unwrap();
         assert_eq!(limits.answers, enough_answers(run.len()));
         assert_eq!(limits.bytes, enough_bytes(run.len()));

@@ -3,13 +3,13 @@
 //! numbering of its masks. And against the bound over its chosen runs.
 
 use comparison::many::{any_choice, result_of, whole, Call, Comparer};
-use comparison::question::{whole as whole_single, Limits, Question};
+use comparison::question::{self, whole as whole_single, Limits, Question};
 use comparison::seeds;
 use comparison::shapes::any_runs;
 use comparison::verdicts::Seen;
 use quorum::{enough_answers, enough_bytes, probe_bound, probe_bound_chosen, Counts, Stopped};
 use reference::testing::{choose, lay_out, renumber, slices, Random};
-use reference::{all_runs, decode, encode, is_true_chosen};
+use reference::{all_runs, decode, encode, is_true_by, Weighting};
 
 /// What a single question returns, its answers and its certificate.
 type Single = (Result<Counts, Stopped>, Vec<u32>, Vec<u8>);
@@ -18,15 +18,8 @@ type Single = (Result<Counts, Stopped>, Vec<u32>, Vec<u8>);
 fn ask<R: AsRef<[u32]>>(runs: &[R], threshold: u32, limits: Limits) -> Single {
     let (numbers, ends) = lay_out(runs);
     let (mut answers, mut certificate) = (vec![0; limits.answers], vec![0; limits.bytes]);
-    let allowance = limits.allowance;
-    let result = quorum::query(
-        &numbers,
-        &ends,
-        threshold,
-        allowance,
-        &mut answers,
-        &mut certificate,
-    );
+    let question = Question::plain(&numbers, &ends, threshold);
+    let result = question::ask(question, limits.allowance, &mut answers, &mut certificate);
     let counts = result.unwrap_or_else(|stopped| stopped.counts);
     answers.truncate(counts.answers);
     certificate.truncate(counts.bytes);
@@ -74,11 +67,7 @@ fn one_question_about_all_runs() {
         let runs = any_runs(&mut random, k, 7);
         let threshold = random.from_to(1, k) as u32;
         let (numbers, ends) = lay_out(&runs);
-        let question = Question {
-            numbers: &numbers,
-            ends: &ends,
-            threshold,
-        };
+        let question = Question::plain(&numbers, &ends, threshold);
         let exact = whole_single(question).unwrap();
         let cut = Limits {
             allowance: random.below(exact.allowance as usize + 1) as u32,
@@ -122,19 +111,16 @@ fn compare_alone(seed: u64, runs: &[Vec<u32>], call: &Call, seen: &mut Seen) {
         assert_eq!(question.answers, answers, "{}", context());
         let renumbered = renumber(&decode(&certificate).unwrap(), mask);
         assert_eq!(question.certificate, encode(&renumbered), "{}", context());
-        assert!(is_true_chosen(&slices(runs), mask, threshold, &renumbered));
+        let weighting = Weighting::Chosen(mask);
+        assert!(is_true_by(&slices(runs), weighting, threshold, &renumbered));
         sums.answers += alone.answers;
         sums.parts += alone.parts;
         sums.bytes += alone.bytes;
         sums.doublings += alone.doublings;
         sums.halvings += alone.halvings;
 
-        let single = Question {
-            numbers: &call.numbers,
-            ends: &call.ends,
-            threshold,
-        };
-        let number = seen.compare_chosen(seed, single, mask, question.certificate);
+        let single = Question::plain(&call.numbers, &call.ends, threshold);
+        let number = seen.compare(seed, single.choosing(mask), question.certificate);
         assert_eq!(number, 0, "{}", context());
 
         // The bound is that of the chosen runs alone, for the walk's own parts.
@@ -217,12 +203,9 @@ fn finished_before_a_stop() {
         };
         assert_eq!(stopped.finished(), stopped.question, "seed {seed}");
         for (i, question) in comparer.finished(stopped.question).iter().enumerate() {
-            let single = Question {
-                numbers: &call.numbers,
-                ends: &call.ends,
-                threshold: call.thresholds[i],
-            };
-            let number = seen.compare_chosen(seed, single, call.masks[i], question.certificate);
+            let single = Question::plain(&call.numbers, &call.ends, call.thresholds[i]);
+            let single = single.choosing(call.masks[i]);
+            let number = seen.compare(seed, single, question.certificate);
             assert_eq!(number, 0, "seed {seed}: {call:?}");
             let chosen = choose(&runs, call.masks[i]);
             let whole = ask(&chosen, call.thresholds[i], exact);
@@ -248,14 +231,11 @@ fn other_choices() {
         for question in comparer.finished(3) {
             let mask = any_choice(&mut random, k);
             let threshold = random.from_to(1, mask.count_ones() as usize) as u32;
-            let single = Question {
-                numbers: &call.numbers,
-                ends: &call.ends,
-                threshold,
-            };
-            let number = seen.compare_chosen(seed, single, mask, question.certificate);
+            let single = Question::plain(&call.numbers, &call.ends, threshold);
+            let number = seen.compare(seed, single.choosing(mask), question.certificate);
             let parts = decode(question.certificate).unwrap();
-            let truth = is_true_chosen(&slices(&runs), mask, threshold, &parts);
+            let weighting = Weighting::Chosen(mask);
+            let truth = is_true_by(&slices(&runs), weighting, threshold, &parts);
             assert_eq!(truth, number == 0, "seed {seed}: {call:?}");
             if parts.iter().any(|part| part.mask() & !mask != 0) {
                 assert!(matches!(number, 10 | 11), "seed {seed}: {call:?}");

@@ -106,11 +106,7 @@ fn lines_of_the_program() {
         ("four_of_seven", &SEVEN_RUNS, 4),
     ] {
         let (numbers, ends) = lay_out(runs);
-        let question = Question {
-            numbers: &numbers,
-            ends: &ends,
-            threshold,
-        };
+        let question = Question::plain(&numbers, &ends, threshold);
         let limits = whole(question).unwrap();
         let mut certificate = vec![0; limits.bytes];
         let mut answers = vec![0; limits.answers];

@@ -1,66 +1,61 @@
-//! Random queries of every kind, and all small ones: outcomes, places, counts
-//! and the whole of both buffers.
+//! Random queries of every kind, and all small ones, without weights and with
+//! them: outcomes, places, counts and the whole of both buffers.
 
-use comparison::broken::{any_threshold, break_rows};
-use comparison::question::{whole, Comparer, Limits, Question};
+use comparison::broken::{any_broken, break_rows};
+use comparison::question::{self, whole, Comparer, Limits, Question};
 use comparison::seeds;
 use comparison::shapes::{any_runs, shaped_runs, SHAPES};
-use reference::testing::{lay_out, small_inputs, Random, M};
+use reference::testing::{any_weights, lay_out, small_inputs, Random, Wanted, M};
+use reference::Weighting;
 
 /// Asks about random runs with limits of every kind.
-fn compare_random(group: u64, cases: u64, runs: [usize; 2], length: usize) -> Comparer {
-    let mut comparer = Comparer::new();
-    for seed in seeds(group, cases) {
-        let mut random = Random(seed);
-        let k = random.from_to(runs[0], runs[1]);
-        let length = random.below(length + 1);
-        let runs = any_runs(&mut random, k, length);
-        let (numbers, ends) = lay_out(&runs);
-        let question = Question {
-            numbers: &numbers,
-            ends: &ends,
-            threshold: any_threshold(&mut random, k),
-        };
-        comparer.compare_limits(seed, &mut random, question);
-    }
-    comparer
-}
-
-/// Each of the outcomes was met often enough.
-fn met(comparer: &Comparer, outcomes: &[usize], times: u64) {
-    let seen = comparer.seen;
-    println!("{} questions, by refusal {seen:?}", comparer.asked());
-    assert!(outcomes.iter().all(|&i| seen[i] >= times), "{seen:?}");
+fn compare_random(
+    weighted: bool,
+    group: u64,
+    cases: u64,
+    runs: [usize; 2],
+    length: usize,
+) -> Comparer {
+    question::compare_random(Comparer::new(), weighted, seeds(group, cases), runs, length)
 }
 
 #[test]
 fn few_short_runs() {
-    let comparer = compare_random(1, 15_000, [0, 5], 8);
-    assert!(comparer.asked() > 150_000);
-    met(&comparer, &[0, 1, 2, 5, 6, 7], 100);
+    for weighted in [false, true] {
+        let comparer = compare_random(weighted, 1, 15_000, [0, 5], 8);
+        assert!(comparer.asked() > 150_000);
+        comparer.met(&[0, 1, 2, 5, 6, 7], 100);
+    }
 }
 
 #[test]
 fn more_runs() {
-    let comparer = compare_random(2, 6_000, [3, 20], 20);
-    assert!(comparer.asked() > 60_000);
-    met(&comparer, &[0, 2, 5, 6, 7], 100);
+    for weighted in [false, true] {
+        let comparer = compare_random(weighted, 2, 6_000, [3, 20], 20);
+        assert!(comparer.asked() > 60_000);
+        comparer.met(&[0, 2, 5, 6, 7], 100);
+    }
 }
 
 #[test]
 fn most_runs() {
-    let comparer = compare_random(3, 1_500, [40, 65], 40);
-    assert!(comparer.asked() > 15_000);
-    met(&comparer, &[0, 1, 2, 5, 6, 7], 10);
+    for weighted in [false, true] {
+        let comparer = compare_random(weighted, 3, 1_500, [40, 65], 40);
+        assert!(comparer.asked() > 15_000);
+        comparer.met(&[0, 1, 2, 5, 6, 7], 10);
+    }
 }
 
 #[test]
 fn long_runs() {
-    let comparer = compare_random(4, 200, [1, 8], 6_000);
-    met(&comparer, &[0, 5, 6, 7], 10);
+    for weighted in [false, true] {
+        let comparer = compare_random(weighted, 4, 200, [1, 8], 6_000);
+        comparer.met(&[0, 5, 6, 7], 10);
+    }
 }
 
-/// Every number of runs with every threshold, 0 and one too many included.
+/// Every number of runs with every threshold, 0 and one too many included, and,
+/// where runs have weights, with what the first of them weigh or one more.
 #[test]
 fn every_threshold() {
     let mut comparer = Comparer::new();
@@ -70,31 +65,31 @@ fn every_threshold() {
         let runs = any_runs(&mut random, k, 8);
         let (numbers, ends) = lay_out(&runs);
         for threshold in 0..=k as u32 + 1 {
-            let question = Question {
-                numbers: &numbers,
-                ends: &ends,
-                threshold,
-            };
+            let question = Question::plain(&numbers, &ends, threshold);
+            comparer.compare_limits(seed, &mut random, question);
+        }
+        let weights = any_weights(&mut random, k);
+        for first in 0..=k {
+            let weight = weights[..first].iter().sum::<u32>();
+            let wanted = Wanted::weighted(&weights, weight + random.below(2) as u32);
+            let question = Question::wanting(&numbers, &ends, &wanted);
             comparer.compare_limits(seed, &mut random, question);
         }
     }
-    met(&comparer, &[0, 1, 2, 5, 6, 7], 100);
+    comparer.met(&[0, 1, 2, 5, 6, 7], 100);
 }
 
 /// Every allowance with every size of both buffers, on small walks.
 #[test]
 fn every_limit() {
     let mut comparer = Comparer::new();
-    for seed in seeds(6, 60) {
+    for seed in seeds(6, 120) {
         let mut random = Random(seed);
         let k = random.from_to(1, 4);
         let runs = any_runs(&mut random, k, 5);
         let (numbers, ends) = lay_out(&runs);
-        let question = Question {
-            numbers: &numbers,
-            ends: &ends,
-            threshold: random.from_to(1, k) as u32,
-        };
+        let wanted = Wanted::any(&mut random, k);
+        let question = Question::wanting(&numbers, &ends, &wanted);
         let whole = whole(question).unwrap();
         for allowance in 0..=whole.allowance + 1 {
             for answers in 0..=whole.answers + 1 {
@@ -109,62 +104,63 @@ fn every_limit() {
             }
         }
     }
-    met(&comparer, &[0, 5, 6, 7], 10);
+    comparer.met(&[0, 5, 6, 7], 10);
 }
 
 /// All runs over the first bin and the last two, each after up to two marks, up
-/// to three runs.
+/// to three runs, with every threshold and with weights that differ.
 #[test]
 fn all_small_inputs() {
     let mut comparer = Comparer::new();
     for k in 1..=3 {
+        let weights = &[2, 1, 3][..k as usize];
+        let plain = (1..=k).map(Wanted::plain);
+        let weighted = (1..=weights.iter().sum()).map(|w| Wanted::weighted(weights, w));
+        let all: Vec<Wanted> = plain.chain(weighted).collect();
         for (seed, runs) in (0..).zip(small_inputs(k)) {
             let (numbers, ends) = lay_out(&runs);
-            for threshold in 1..=k {
-                let question = Question {
-                    numbers: &numbers,
-                    ends: &ends,
-                    threshold,
-                };
+            for wanted in &all {
+                let question = Question::wanting(&numbers, &ends, wanted);
                 comparer.compare_limits(seed, &mut Random(seed), question);
             }
         }
     }
-    met(&comparer, &[0, 5, 6, 7], 10_000);
+    comparer.met(&[0, 5, 6, 7], 10_000);
 }
 
-/// Rows broken in one to three ways.
+/// Rows broken in one to three ways, with weights that are broken in half of the
+/// cases that have them.
 #[test]
 fn first_checks() {
-    let mut comparer = Comparer::new();
-    for seed in seeds(7, 60_000) {
-        let mut random = Random(seed);
-        let k = random.pick(&[0, 1, 2, 3, 3, 4, 5, 8, 63, 64, 65]);
-        let length = random.below(8);
-        let (mut numbers, mut ends) = lay_out(&any_runs(&mut random, k, length));
-        for _ in 0..random.from_to(1, 3) {
-            break_rows(&mut random, &mut numbers, &mut ends);
+    for weighted in [false, true] {
+        let mut comparer = Comparer::new();
+        for seed in seeds(7, 60_000) {
+            let mut random = Random(seed);
+            let k = random.pick(&[0, 1, 2, 3, 3, 4, 5, 8, 63, 64, 65]);
+            let length = random.below(8);
+            let (mut numbers, mut ends) = lay_out(&any_runs(&mut random, k, length));
+            for _ in 0..random.from_to(1, 3) {
+                break_rows(&mut random, &mut numbers, &mut ends);
+            }
+            let wanted = any_broken(&mut random, ends.len(), weighted);
+            let question = Question::wanting(&numbers, &ends, &wanted);
+            let limits = Limits {
+                allowance: random.pick(&[0, 1, 5, M]),
+                answers: random.below(20),
+                bytes: random.below(300),
+            };
+            comparer.compare(seed, question, limits);
         }
-        let question = Question {
-            numbers: &numbers,
-            ends: &ends,
-            threshold: any_threshold(&mut random, ends.len()),
-        };
-        let limits = Limits {
-            allowance: random.pick(&[0, 1, 5, M]),
-            answers: random.below(20),
-            bytes: random.below(300),
-        };
-        comparer.compare(seed, question, limits);
+        comparer.met(&[0, 1, 2, 3, 4, 5, 6, 7], 100);
+        comparer.met(&[17], if weighted { 10_000 } else { 0 });
     }
-    met(&comparer, &[0, 1, 2, 3, 4, 5, 6, 7], 200);
 }
 
 /// Any rows at all.
 #[test]
 fn noise() {
     let mut comparer = Comparer::of_rows();
-    for seed in seeds(8, 100_000) {
+    for seed in seeds(8, 160_000) {
         let mut random = Random(seed);
         let small = |random: &mut Random| match random.below(12) {
             0 => random.word(),
@@ -183,11 +179,15 @@ fn noise() {
             true => small(&mut random),
             false => random.from_to(1, ends.len().max(1)) as u32,
         };
-        let question = Question {
-            numbers: &numbers,
-            ends: &ends,
-            threshold,
+        let length = match random.one_in(4) {
+            true => random.below(5),
+            false => ends.len(),
         };
+        let weights: Vec<u32> = (0..length).map(|_| small(&mut random)).collect();
+        let mut question = Question::plain(&numbers, &ends, threshold);
+        if random.one_in(2) {
+            question.weighting = Weighting::Given(&weights);
+        }
         let limits = Limits {
             allowance: small(&mut random),
             answers: random.below(4),
@@ -195,26 +195,18 @@ fn noise() {
         };
         comparer.compare(seed, question, limits);
     }
-    met(&comparer, &[0, 1, 2, 3, 4, 5, 6, 7], 30);
+    comparer.met(&[0, 1, 2, 3, 4, 5, 6, 7, 17], 30);
 }
 
 /// The rows that the C interface writes, 0 for the place of an accepted query
 /// included.
 #[test]
 fn rows_of_the_c_interface() {
-    let mut comparer = Comparer::of_rows();
-    for seed in seeds(9, 3_000) {
-        let mut random = Random(seed);
-        let k = random.from_to(0, 9);
-        let (numbers, ends) = lay_out(&any_runs(&mut random, k, 9));
-        let question = Question {
-            numbers: &numbers,
-            ends: &ends,
-            threshold: any_threshold(&mut random, k),
-        };
-        comparer.compare_limits(seed, &mut random, question);
+    for weighted in [false, true] {
+        let comparer = Comparer::of_rows();
+        let comparer = question::compare_random(comparer, weighted, seeds(9, 3_000), [0, 9], 9);
+        comparer.met(&[0, 1, 2, 5, 6, 7], 50);
     }
-    met(&comparer, &[0, 1, 2, 5, 6, 7], 50);
 }
 
 /// Exactly as many numbers as are allowed, and one more.
@@ -230,30 +222,31 @@ fn most_numbers() {
         let others: usize = runs[..k - 1].iter().map(Vec::len).sum();
         runs[k - 1] = (0..).step_by(3).take(MOST - others).collect();
         let (mut numbers, mut ends) = lay_out(&runs);
-        for threshold in [1, k as u32 / 2, k as u32] {
-            let question = Question {
-                numbers: &numbers,
-                ends: &ends,
-                threshold,
-            };
+        let weights = any_weights(&mut random, k);
+        for wanted in [
+            Wanted::plain(1),
+            Wanted::plain(k as u32 / 2),
+            Wanted::plain(k as u32),
+            Wanted::any_of(&mut random, &weights),
+            Wanted::weighted(&weights, weights.iter().sum()),
+        ] {
+            let question = Question::wanting(&numbers, &ends, &wanted);
             let whole = whole(question).unwrap();
             comparer.compare(seed, question, whole);
         }
         numbers.push(M);
         for last_end in [MOST, MOST + 1] {
             ends[k - 1] = last_end as u32;
-            let question = Question {
-                numbers: &numbers,
-                ends: &ends,
-                threshold: 1,
-            };
-            let limits = Limits {
-                allowance: M,
-                answers: 3,
-                bytes: 50,
-            };
-            comparer.compare(seed, question, limits);
+            for wanted in [Wanted::plain(1), Wanted::weighted(&weights, 1)] {
+                let question = Question::wanting(&numbers, &ends, &wanted);
+                let limits = Limits {
+                    allowance: M,
+                    answers: 3,
+                    bytes: 50,
+                };
+                comparer.compare(seed, question, limits);
+            }
         }
     }
-    assert_eq!((comparer.seen[0], comparer.seen[3]), (18, 12));
+    assert_eq!((comparer.seen[0], comparer.seen[3]), (30, 24));
 }

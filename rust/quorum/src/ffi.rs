@@ -59,6 +59,33 @@ extern "C" {
         certificate_len: usize,
         result: *mut [u64; 4],
     );
+    fn quorum_query_weighted(
+        numbers: *const u32,
+        numbers_len: usize,
+        ends: *const u32,
+        ends_len: usize,
+        weights: *const u32,
+        weights_len: usize,
+        wanted: u32,
+        allowance: u32,
+        answers: *mut u32,
+        answers_len: usize,
+        certificate: *mut u8,
+        certificate_len: usize,
+        result: *mut [u64; 7],
+    );
+    fn quorum_check_weighted(
+        numbers: *const u32,
+        numbers_len: usize,
+        ends: *const u32,
+        ends_len: usize,
+        weights: *const u32,
+        weights_len: usize,
+        wanted: u32,
+        certificate: *const u8,
+        certificate_len: usize,
+        result: *mut [u64; 4],
+    );
     fn quorum_between(
         list: *const u32,
         list_len: usize,
@@ -223,6 +250,86 @@ pub fn check_chosen(
             ends.len(),
             mask,
             threshold,
+            certificate.as_ptr(),
+            certificate.len(),
+            &mut result,
+        );
+    }
+    result
+}
+
+/// Returns refusal, place, answers, parts, bytes, doubling probes and halving
+/// probes.
+///
+/// ```
+/// let (mut answers, mut certificate) = ([0; 2], [0; 87]);
+/// // {7, 9} and {7}: the first run counts for two.
+/// let row = quorum::ffi::query_weighted(
+///     &[7, 9, 7],
+///     &[2, 3],
+///     &[2, 1],
+///     2,
+///     0,
+///     &mut answers,
+///     &mut certificate,
+/// );
+/// assert_eq!((row, answers), ([0, 0, 2, 5, 87, 0, 0], [7, 9]));
+/// ```
+pub fn query_weighted(
+    numbers: &[u32],
+    ends: &[u32],
+    weights: &[u32],
+    wanted: u32,
+    allowance: u32,
+    answers: &mut [u32],
+    certificate: &mut [u8],
+) -> [u64; 7] {
+    let mut result = [u64::MAX; 7];
+    // SAFETY: as in `query`.
+    unsafe {
+        quorum_query_weighted(
+            numbers.as_ptr(),
+            numbers.len(),
+            ends.as_ptr(),
+            ends.len(),
+            weights.as_ptr(),
+            weights.len(),
+            wanted,
+            allowance,
+            answers.as_mut_ptr(),
+            answers.len(),
+            certificate.as_mut_ptr(),
+            certificate.len(),
+            &mut result,
+        );
+    }
+    result
+}
+
+/// Returns refusal, place, answers and parts.
+///
+/// ```
+/// // There is a weight too few.
+/// assert_eq!(quorum::ffi::check_weighted(&[7], &[1], &[], 1, &[]), [17, 1, 0, 0]);
+/// ```
+pub fn check_weighted(
+    numbers: &[u32],
+    ends: &[u32],
+    weights: &[u32],
+    wanted: u32,
+    certificate: &[u8],
+) -> [u64; 4] {
+    let mut result = [u64::MAX; 4];
+    // SAFETY: as in `check`.
+    unsafe {
+        quorum_check_weighted(
+            numbers.as_ptr(),
+            numbers.len(),
+            ends.as_ptr(),
+            ends.len(),
+            weights.as_ptr(),
+            weights.len(),
+            wanted,
             certificate.as_ptr(),
             certificate.len(),
             &mut result,

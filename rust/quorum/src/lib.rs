@@ -1,11 +1,13 @@
 //! Which bins do at least `t` of `k` rising lists hold? A safe wrapper of the
 //! proved library behind `include/quorum.h`.
 //!
-//! * [`query()`] writes the bins held often enough, with a certificate.
+//! * [`query()`] writes the bins held often enough, with a certificate,
+//!   [`query_weighted()`] those of runs that count for more than one.
 //! * [`query_many()`] does so for many questions about the same runs, each about
 //!   some of them; [`finished()`] hands out each question's own.
 //! * [`check()`] decides whether a certificate is true, [`check_chosen()`]
-//!   whether it is for some of the runs.
+//!   whether it is for some of the runs, [`check_weighted()`] whether it is for
+//!   runs with weights.
 //! * [`parts()`] reads a certificate.
 //! * [`between()`] finds the bins of one list between two numbers.
 //! * [`probe_bound()`] gives an allowance of probes that is enough,
@@ -38,14 +40,19 @@
 //! the lowest. The runs that a question is about are *chosen* by a mask; all
 //! masks, those of a certificate too, are in the numbering of all runs.
 //!
-//! An *answer* is a bin that at least `threshold` runs hold. A *certificate*
+//! A run may have a *weight* from 1 to [`MAX_WEIGHT`], which is 255: what it counts
+//! for. In questions without weights each run counts for one. Weights are for all
+//! runs; no question has both weights and a mask.
+//!
+//! An *answer* is a bin that at least `threshold` runs hold, or that runs hold
+//! which together weigh at least the wanted weight. A *certificate*
 //! shows which bins are answers and that no other is. It is a row of bytes, one
 //! field for each [`Part`]; the parts cover every bin from [`FIRST_BIN`] to
 //! [`LAST_BIN`] once, in rising order. A part is either an answer, with a mask
 //! of runs that hold it, or a gap, with a mask of runs that have no number in
-//! it, so many that the others are fewer than `threshold`. An answer's mask, as
-//! [`query()`] writes it, names all the runs that hold it. Whoever has the runs
-//! can check a certificate, whoever wrote it.
+//! it, so many that the others are fewer than `threshold`, or weigh less than is
+//! wanted. An answer's mask, as [`query()`] writes it, names all the runs that hold
+//! it. Whoever has the runs can check a certificate, whoever wrote it.
 //!
 //! A *probe* is one comparison with a number in a search. A search jumps ahead in
 //! its run by *doubling probes*, 1, 2, 4 numbers and so on, and then narrows down
@@ -108,6 +115,7 @@ mod lcov;
 mod limits;
 mod many;
 mod refusal;
+mod weighted;
 
 pub use certificate::{parts, Part, Parts, Runs, ANSWER_SIZE, GAP_SIZE, TAG_ANSWER, TAG_GAP};
 pub use chosen::{check_chosen, probe_bound_chosen};
@@ -115,19 +123,20 @@ pub use finished::{finished, Answered, Finished};
 pub use lcov::{lcov_run, StoppedRun};
 pub use limits::{
     enough_answers, enough_bytes, enough_results, ENOUGH_PROBES, FIRST_BIN, LAST_BIN, MAX_NUMBERS,
-    MAX_RUNS,
+    MAX_RUNS, MAX_WEIGHT,
 };
 pub use many::{query_many, StoppedMany};
 pub use refusal::{Refusal, Stopped};
+pub use weighted::{check_weighted, query_weighted};
 
 /// The README's lines are compiled and run as a documentation test.
 #[cfg(doctest)]
 #[doc = include_str!("../../../README.md")]
 struct Readme;
 
-/// What a query wrote and probed: the result of [`query()`], and in [`Stopped`].
-/// Of many questions the sums: the result of [`query_many()`], and in
-/// [`StoppedMany`].
+/// What a query wrote and probed: the result of [`query()`] and of
+/// [`query_weighted()`], and in [`Stopped`]. Of many questions the sums: the result
+/// of [`query_many()`], and in [`StoppedMany`].
 ///
 /// ```
 /// // One run with no numbers: the certificate is one gap.
@@ -172,8 +181,8 @@ impl Counts {
     }
 }
 
-/// What a true certificate has: the result of [`check()`], with an example, and
-/// of [`check_chosen()`].
+/// What a true certificate has: the result of [`check()`], with an example, of
+/// [`check_chosen()`] and of [`check_weighted()`].
 #[derive(Clone, Copy, Debug, PartialEq, Eq, Hash)]
 pub struct Checked {
     /// How many of its parts are answers.
@@ -262,8 +271,18 @@ pub fn query(
     answers: &mut [u32],
     certificate: &mut [u8],
 ) -> Result<Counts, Stopped> {
-    let [number, place, written @ ..] =
-        ffi::query(numbers, ends, threshold, allowance, answers, certificate);
+    queried(ffi::query(
+        numbers,
+        ends,
+        threshold,
+        allowance,
+        answers,
+        certificate,
+    ))
+}
+
+/// What a query returns for the row that the library writes.
+fn queried([number, place, written @ ..]: [u64; 7]) -> Result<Counts, Stopped> {
     let counts = counted(written);
     match number {
         0 => Ok(counts),
@@ -373,7 +392,8 @@ pub fn between(list: &[u32], first: u32, last: u32) -> &[u32] {
 
 /// Returns the sum over the runs of 2 × `parts` × the binary digits of the
 /// run's length, an empty run having 0 digits. If a true certificate has so many
-/// parts, an allowance of this many probes is enough.
+/// parts, an allowance of this many probes is enough, with weights too: for runs
+/// with weights the certificate is one that is true for these.
 ///
 /// The length is that of the numbers as lent, zeros at the start among them, for
 /// the ends tell no more. So the sum may be above that over the runs' bins, and is

@@ -16,6 +16,13 @@ pub const MAX_RUNS: usize = 64;
 /// ```
 pub const MAX_NUMBERS: usize = 1_048_576;
 
+/// The largest weight of a run; the smallest is 1.
+///
+/// ```
+/// assert_eq!(quorum::MAX_WEIGHT, 255);
+/// ```
+pub const MAX_WEIGHT: u32 = 255;
+
 /// The first bin. 0 is none: at the start of a run zeros mark hits that could not
 /// be mapped, and elsewhere a 0 is refused.
 ///
@@ -32,10 +39,10 @@ pub const FIRST_BIN: u32 = 1;
 /// ```
 pub const LAST_BIN: u32 = u32::MAX;
 
-/// An allowance that is enough for one question about any runs: refusal
-/// [`ALLOWANCE_SPENT`](crate::Refusal::ALLOWANCE_SPENT) never occurs with it, nor
-/// with a larger one such as `u32::MAX`. Many questions in one call need at most
-/// this for each of them.
+/// An allowance that is enough for one question about any runs, with weights or
+/// without: refusal [`ALLOWANCE_SPENT`](crate::Refusal::ALLOWANCE_SPENT) never occurs
+/// with it, nor with a larger one such as `u32::MAX`. Many questions in one call
+/// need at most this for each of them.
 ///
 /// A search moves its run on by at least one number. So in a run of n bins
 /// there are at most n searches, each of at most 2 × b probes, b being the
@@ -52,8 +59,9 @@ pub const LAST_BIN: u32 = u32::MAX;
 pub const ENOUGH_PROBES: u32 = 44_040_192;
 
 /// A length of the answer buffer that is enough for any runs of so many
-/// numbers: refusal [`ANSWERS_FULL`](crate::Refusal::ANSWERS_FULL) never occurs
-/// (proved). Many questions in one call need at most this for each of them.
+/// numbers, with weights or without: refusal
+/// [`ANSWERS_FULL`](crate::Refusal::ANSWERS_FULL) never occurs (proved). Many
+/// questions in one call need at most this for each of them.
 ///
 /// ```
 /// assert_eq!(quorum::enough_answers(9), 9);
@@ -63,7 +71,7 @@ pub const fn enough_answers(numbers: usize) -> usize {
 }
 
 /// A length of the certificate buffer that is enough for any runs of so many
-/// numbers, 34 × `numbers` + 19: refusal
+/// numbers, with weights or without, 34 × `numbers` + 19: refusal
 /// [`CERTIFICATE_FULL`](crate::Refusal::CERTIFICATE_FULL) never occurs (proved).
 /// `usize::MAX` stands for a length above it, of more numbers than a query
 /// takes.

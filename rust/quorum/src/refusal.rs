@@ -41,6 +41,11 @@ pub struct Refusal {
 /// and 2 for each question before the next; the parts that its place of 5 to 7
 /// counts are those of the question that was stopped.
 ///
+/// [`query_weighted()`](crate::query_weighted()) and
+/// [`check_weighted()`](crate::check_weighted()) test 1, 17, 2, 3 and 4 first and in
+/// this order, and then what [`query()`](crate::query()) and
+/// [`check()`](crate::check()) do.
+///
 /// [`lcov_run()`](crate::lcov_run()) tests 15, 4 and 5 in this order for each
 /// record, and 16 at the end of the file.
 ///
@@ -63,7 +68,8 @@ impl Refusal {
     pub const BAD_RUN_COUNT: u64 = 1;
 
     /// The threshold is 0 or above the number of runs, or of those that a mask
-    /// chooses. The place is the threshold; from
+    /// chooses; or the wanted weight is 0 or above the weight of all runs. The
+    /// place is the threshold or the wanted weight; from
     /// [`query_many()`](crate::query_many()) it is the number of runs that the
     /// question's mask names.
     pub const BAD_THRESHOLD: u64 = 2;
@@ -106,7 +112,9 @@ impl Refusal {
     pub const NOT_COVERING: u64 = 9;
 
     /// A part's mask names a run that does not exist or is not chosen, or too
-    /// few runs. The place is the offset of the part's tag.
+    /// few runs; by weight, the runs that an answer names weigh too little, or
+    /// those that a gap leaves out too much. The place is the offset of the part's
+    /// tag.
     pub const BAD_MASK: u64 = 10;
 
     /// A named run contradicts its part: it does not hold the answer, or it has
@@ -130,6 +138,11 @@ impl Refusal {
     /// The tracefile has no such section, or the section has no `end_of_record`.
     /// The place is the file's length.
     pub const NO_SECTION: u64 = 16;
+
+    /// There are not as many weights as runs, the place being the number of runs.
+    /// Else a weight is 0 or above [`MAX_WEIGHT`](crate::MAX_WEIGHT), the place being
+    /// the index of the first such.
+    pub const BAD_WEIGHTS: u64 = 17;
 }
 
 impl fmt::Display for Refusal {
@@ -137,7 +150,8 @@ impl fmt::Display for Refusal {
         let ground = match self.number {
             Refusal::BAD_RUN_COUNT => "no runs, or more than 64",
             Refusal::BAD_THRESHOLD => {
-                "the threshold is 0 or above the number of runs, or of those chosen"
+                "the threshold is 0 or above the number of runs, or of those chosen; or the \
+                 wanted weight is 0 or above that of all runs"
             }
             Refusal::BAD_ENDS => {
                 "an end is below the one before, or the last end is not the number of numbers \
@@ -160,7 +174,8 @@ impl fmt::Display for Refusal {
                  certificate's end, a bin is still uncovered"
             }
             Refusal::BAD_MASK => {
-                "a part names a run that does not exist or is not chosen, or too few runs"
+                "a part names a run that does not exist or is not chosen, too few runs, or too \
+                 little weight"
             }
             Refusal::CONTRADICTED => "a named run contradicts its part",
             Refusal::BAD_CHOICE => "a mask chooses no run, or one that does not exist",
@@ -173,6 +188,9 @@ impl fmt::Display for Refusal {
                  comma or the line's end"
             }
             Refusal::NO_SECTION => "the file has no such section, or the section has no end",
+            Refusal::BAD_WEIGHTS => {
+                "there are not as many weights as runs, or a weight is 0 or above 255"
+            }
             _ => "an unknown ground",
         };
         write!(f, "refusal {} at {}: {ground}", self.number, self.place)
@@ -210,7 +228,7 @@ pub struct Stopped {
     /// Why the query stopped.
     pub refusal: Refusal,
     /// What it wrote and probed before, which stands: nothing for refusals 1
-    /// to 4, the first answers and parts for 5 to 7.
+    /// to 4 and 17, the first answers and parts for 5 to 7.
     pub counts: Counts,
 }
 

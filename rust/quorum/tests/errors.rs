@@ -1,7 +1,8 @@
 //! Refusals as errors: their texts, and `?` in functions whose errors differ.
 
 use quorum::{
-    check, lcov_run, parts, probe_bound, query, Checked, Counts, Part, Refusal, Stopped, StoppedRun,
+    check, lcov_run, parts, probe_bound, query, query_weighted, Checked, Counts, Part, Refusal,
+    Stopped, StoppedRun,
 };
 use std::collections::BTreeSet;
 use std::error::Error;
@@ -93,10 +94,10 @@ fn texts_of_refusals() {
         let ground = text.strip_prefix(&format!("refusal {number} at 17: "));
         ground.map(str::to_string).expect("number and place")
     };
-    let known = (1..=16).filter(|&number| number != 12);
+    let known = (1..=17).filter(|&number| number != 12);
     let grounds: BTreeSet<String> = known.map(ground).collect();
-    assert_eq!(grounds.len(), 15);
-    for number in [0, 12, 17, u64::MAX] {
+    assert_eq!(grounds.len(), 16);
+    for number in [0, 12, 18, u64::MAX] {
         assert_eq!(ground(number), "an unknown ground");
     }
     assert!(!grounds.contains("an unknown ground"));
@@ -121,6 +122,26 @@ fn texts_of_stopped_queries() {
     assert_eq!(bad.refusal.number, Refusal::BAD_THRESHOLD);
     assert_eq!(bad.counts, Counts::default());
     assert_eq!(text(bad).as_deref(), Some(""));
+}
+
+/// A query with weights stops as one without, and with bad weights before anything
+/// is written.
+#[test]
+fn stopped_with_weights() {
+    let ask = |weights: &[u32]| {
+        let (answers, certificate) = (&mut [0; 9], &mut [0; 325]);
+        query_weighted(&NUMBERS, &ENDS, weights, 2, 2, answers, certificate)
+    };
+    assert_eq!(ask(&[1, 1, 1]), Err(SPENT));
+    let bad = Stopped {
+        refusal: Refusal {
+            number: Refusal::BAD_WEIGHTS,
+            place: 3,
+        },
+        counts: Counts::default(),
+    };
+    assert_eq!(ask(&[1, 1]), Err(bad));
+    assert_eq!(bad.to_string(), bad.refusal.to_string());
 }
 
 /// A stopped reading of a tracefile tells its refusal once and what it wrote, if

@@ -88,8 +88,10 @@ fn constants_are_equal() {
         ("BAD_ROWS", Refusal::BAD_ROWS),
         ("BAD_RECORD", Refusal::BAD_RECORD),
         ("NO_SECTION", Refusal::NO_SECTION),
+        ("BAD_WEIGHTS", Refusal::BAD_WEIGHTS),
         ("MAX_RUNS", quorum::MAX_RUNS as u64),
         ("MAX_NUMBERS", quorum::MAX_NUMBERS as u64),
+        ("MAX_WEIGHT", quorum::MAX_WEIGHT.into()),
         ("FIRST_BIN", quorum::FIRST_BIN.into()),
         ("LAST_BIN", quorum::LAST_BIN.into()),
         ("ENOUGH_PROBES", quorum::ENOUGH_PROBES.into()),
@@ -169,10 +171,30 @@ fn places_of_results() {
     assert_eq!(at(&row, "CHECK_ANSWERS"), 2);
     assert_eq!(at(&row, "CHECK_PARTS"), 5);
 
+    let weights = [3, 1, 1];
+    let (a, c) = (&mut answers, &mut certificate);
+    let row = ffi::query_weighted(&numbers, &ends, &weights, 3, 2, a, c);
+    assert_eq!(row.len(), length("QUERY_ROW"));
+    assert_eq!(at(&row, "QUERY_ANSWERS"), 3);
+    assert_eq!(at(&row, "QUERY_PARTS"), 7);
+    assert_eq!(at(&row, "QUERY_BYTES"), 121);
+    assert_eq!(at(&row, "QUERY_DOUBLINGS"), 2);
+    assert_eq!(at(&row, "QUERY_HALVINGS"), 0);
+    let row = ffi::check_weighted(&numbers, &ends, &weights, 3, &certificate[..121]);
+    assert_eq!(row.len(), length("CHECK_ROW"));
+    assert_eq!(at(&row, "CHECK_ANSWERS"), 3);
+    assert_eq!(at(&row, "CHECK_PARTS"), 7);
+    let row = ffi::check_weighted(&numbers, &ends, &weights[1..], 3, &certificate[..121]);
+    assert_eq!(at(&row, "REFUSAL"), Refusal::BAD_WEIGHTS);
+    assert_eq!(at(&row, "PLACE"), 3);
+
     // {10, 20, .., 160} and {115}: a search that halves.
     let numbers: Vec<u32> = (1..=16).map(|i| 10 * i).chain([115]).collect();
     let tens = [16, 17];
     let row = ffi::query(&numbers, &tens, 2, 7, &mut [], &mut certificate);
+    assert_eq!(at(&row, "QUERY_DOUBLINGS"), 4);
+    assert_eq!(at(&row, "QUERY_HALVINGS"), 3);
+    let row = ffi::query_weighted(&numbers, &tens, &[2, 5], 6, 7, &mut [], &mut certificate);
     assert_eq!(at(&row, "QUERY_DOUBLINGS"), 4);
     assert_eq!(at(&row, "QUERY_HALVINGS"), 3);
     let row = ffi::query_many(

@@ -1,9 +1,8 @@
 //! The bound on the probes of a walk.
 
-use crate::first_checks::{
-    check_order, check_run_count, is_choice, last_end, Refusal, MAX_NUMBERS,
-};
+use crate::first_checks::{check_order, check_run_count, last_end, Refusal, MAX_NUMBERS};
 use crate::mask::{all_runs, named_runs};
+use crate::weights::is_choice;
 
 /// Returns the count of binary digits of `n`: the least `b` for which `n` is
 /// below 2 to the power `b`, so 0 for 0.
@@ -13,8 +12,8 @@ pub fn digits(n: u64) -> u32 {
 
 /// Returns the sum over the runs of 2 × `parts` × the digits of the run's
 /// length. If some true certificate has `parts` parts, an allowance of this
-/// many probes is enough. Refusals 1 and 3; of the numbers' length only its
-/// limit is known here.
+/// many probes is enough, whatever the runs weigh. Refusals 1 and 3; of the
+/// numbers' length only its limit is known here.
 ///
 /// The ends do not tell how many zeros a run begins with, so the length counts
 /// the numbers as lent: the sum is never below that over the runs' bins.

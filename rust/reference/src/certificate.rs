@@ -1,7 +1,8 @@
 //! The parts of a certificate, their bytes, and what makes them true.
 
 use crate::bins::FIRST_BIN;
-use crate::mask::{all_runs, named_runs};
+use crate::mask::named_runs;
+use crate::weights::Weighting;
 
 const ANSWER_TAG: u8 = 1;
 const GAP_TAG: u8 = 2;
@@ -141,13 +142,14 @@ pub fn decode(bytes: &[u8]) -> Option<Vec<Part>> {
 /// threshold. The definition is put into code sentence by sentence, apart
 /// from [`check`](crate::check()), so that the two can be compared.
 pub fn is_true(runs: &[&[u32]], threshold: u32, parts: &[Part]) -> bool {
-    is_true_chosen(runs, all_runs(runs.len()), threshold, parts)
+    is_true_by(runs, Weighting::Plain, threshold, parts)
 }
 
-/// The same for those of the runs that `chosen` names: of these alone the
-/// parts speak, and among these alone the threshold counts.
-pub fn is_true_chosen(runs: &[&[u32]], chosen: u64, threshold: u32, parts: &[Part]) -> bool {
-    let part_is_true = |part| part_is_true(runs, chosen, threshold, part);
+/// The same for any weighting: of the runs that the question is about alone the
+/// parts speak, and these alone weigh.
+pub fn is_true_by(runs: &[&[u32]], weighting: Weighting, threshold: u32, parts: &[Part]) -> bool {
+    let among = weighting.each(runs.len());
+    let part_is_true = |part| part_is_true(runs, &among, threshold, part);
     covers_all(parts) && parts.iter().all(part_is_true)
 }
 
@@ -165,17 +167,23 @@ fn covers_all(parts: &[Part]) -> bool {
             .all(|pair| pair[0].last().checked_add(1) == Some(pair[1].first()))
 }
 
-fn part_is_true(runs: &[&[u32]], chosen: u64, threshold: u32, part: &Part) -> bool {
-    let among: Vec<usize> = named_runs(chosen).filter(|&i| i < runs.len()).collect();
+/// Whether the part is true of the runs `among` all, each of which comes with its
+/// weight.
+fn part_is_true(runs: &[&[u32]], among: &[(usize, u64)], threshold: u32, part: &Part) -> bool {
     let named: Vec<usize> = named_runs(part.mask()).collect();
-    if named.iter().any(|i| !among.contains(i)) {
+    if !named.iter().all(|i| among.iter().any(|(run, _)| run == i)) {
         return false;
     }
-    let (k, t, names) = (among.len() as i64, i64::from(threshold), named.len() as i64);
+    let is_named = |run: &&(usize, u64)| named.contains(&run.0);
+    let (in_it, left_out): (Vec<_>, Vec<_>) = among.iter().partition(is_named);
+    let weight = |runs: Vec<&(usize, u64)>| runs.iter().map(|run| run.1).sum::<u64>();
+    let wanted = u64::from(threshold);
     match *part {
-        Part::Answer { value, .. } => names >= t && named.iter().all(|&i| runs[i].contains(&value)),
+        Part::Answer { value, .. } => {
+            weight(in_it) >= wanted && named.iter().all(|&i| runs[i].contains(&value))
+        }
         Part::Gap { first, last, .. } => {
-            names > k - t
+            weight(left_out) < wanted
                 && named
                     .iter()
                     .all(|&i| !runs[i].iter().any(|x| (first..=last).contains(x)))

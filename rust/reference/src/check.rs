@@ -2,8 +2,9 @@
 
 use crate::bins::FIRST_BIN;
 use crate::certificate::{read_field, Part};
-use crate::first_checks::{first_checks_chosen, split_runs, Refusal};
-use crate::mask::{all_runs, named_runs};
+use crate::first_checks::{checked_weights, split_runs, Refusal};
+use crate::mask::named_runs;
+use crate::weights::{Weighting, Weights};
 
 /// What [`check()`] returns.
 #[derive(Clone, Copy, Debug, PartialEq, Eq)]
@@ -15,10 +16,10 @@ pub enum Verdict {
         /// How many parts it has.
         parts: u64,
     },
-    /// The runs, the mask or the threshold fail the first checks, or the
-    /// certificate is not true.
+    /// The runs, the mask, the weights or the threshold fail the first checks,
+    /// or the certificate is not true.
     Invalid {
-        /// The number of the refusal: 1 to 4, 8 to 11 or 13.
+        /// The number of the refusal: 1 to 4, 8 to 11, 13 or 17.
         number: u8,
         /// The place that the table gives for it: for 8 to 11 an offset in
         /// the certificate.
@@ -30,7 +31,7 @@ pub enum Verdict {
 /// the certificate is true for them, else the first refusal. Each field is
 /// settled fully before the next.
 pub fn check(numbers: &[u32], ends: &[u32], threshold: u32, certificate: &[u8]) -> Verdict {
-    check_chosen(numbers, ends, all_runs(ends.len()), threshold, certificate)
+    check_by(numbers, ends, Weighting::Plain, threshold, certificate)
 }
 
 /// The same for the runs that `mask` chooses, with 13 among the first checks.
@@ -42,7 +43,42 @@ pub fn check_chosen(
     threshold: u32,
     certificate: &[u8],
 ) -> Verdict {
-    match check_fields(numbers, ends, mask, threshold, certificate) {
+    check_by(
+        numbers,
+        ends,
+        Weighting::Chosen(mask),
+        threshold,
+        certificate,
+    )
+}
+
+/// The same for runs that have weights, with 17 among the first checks. What a
+/// part names, or leaves out, is weighed.
+pub fn check_weighted(
+    numbers: &[u32],
+    ends: &[u32],
+    weights: &[u32],
+    wanted: u32,
+    certificate: &[u8],
+) -> Verdict {
+    check_by(
+        numbers,
+        ends,
+        Weighting::Given(weights),
+        wanted,
+        certificate,
+    )
+}
+
+/// The same for any weighting.
+pub fn check_by(
+    numbers: &[u32],
+    ends: &[u32],
+    weighting: Weighting,
+    threshold: u32,
+    certificate: &[u8],
+) -> Verdict {
+    match check_fields(numbers, ends, weighting, threshold, certificate) {
         Ok((answers, parts)) => Verdict::Valid { answers, parts },
         Err(Refusal { number, place }) => Verdict::Invalid { number, place },
     }
@@ -51,11 +87,11 @@ pub fn check_chosen(
 fn check_fields(
     numbers: &[u32],
     ends: &[u32],
-    chosen: u64,
+    weighting: Weighting,
     threshold: u32,
     certificate: &[u8],
 ) -> Result<(u64, u64), Refusal> {
-    first_checks_chosen(numbers, ends, chosen, threshold)?;
+    let weights = checked_weights(numbers, ends, weighting, threshold)?;
     // What is left of each run. Parts rise, so bins below one are done with.
     let mut unseen = split_runs(numbers, ends);
     let (mut answers, mut parts) = (0, 0);
@@ -71,7 +107,7 @@ fn check_fields(
         if u64::from(part.first()) != next || part.last() < part.first() {
             return Err(Refusal::new(9, offset));
         }
-        if !names_enough(&part, chosen, threshold) {
+        if !names_enough(&part, &weights, threshold) {
             return Err(Refusal::new(10, offset));
         }
         if named_runs(part.mask()).any(|i| contradicts(&mut unseen[i], &part)) {
@@ -88,13 +124,15 @@ fn check_fields(
     Ok((answers, parts))
 }
 
-/// Whether the part names only chosen runs, and as many as it needs.
-fn names_enough(part: &Part, chosen: u64, threshold: u32) -> bool {
-    let needed = match part {
-        Part::Answer { .. } => threshold,
-        Part::Gap { .. } => chosen.count_ones() - threshold + 1,
+/// Whether the part names only chosen runs, and those that it names (an answer)
+/// weigh enough or those that it leaves out (a gap) do not.
+fn names_enough(part: &Part, weights: &Weights, threshold: u32) -> bool {
+    let (chosen, named) = (weights.chosen(), part.mask());
+    let is_enough = match part {
+        Part::Answer { .. } => weights.of(named) >= threshold,
+        Part::Gap { .. } => weights.of(chosen & !named) < threshold,
     };
-    part.mask() & !chosen == 0 && part.mask().count_ones() >= needed
+    named & !chosen == 0 && is_enough
 }
 
 /// Whether a run named by the part contradicts it. Drops the bins of the run

@@ -1,6 +1,7 @@
 //! The least number of parts of any true certificate, found without the walk.
 
 use crate::bins::{bins, FIRST_BIN};
+use crate::weights::Weighting;
 
 /// Returns the least number of parts of any true certificate for runs and a
 /// threshold that pass the first checks; 0 if there is none, which happens
@@ -17,11 +18,16 @@ use crate::bins::{bins, FIRST_BIN};
 /// one of them, x and x + 1 would be points, and no part that begins above x
 /// would be moved down to x or below.
 pub fn fewest_parts(runs: &[&[u32]], threshold: u32) -> usize {
-    let runs: Vec<&[u32]> = runs.iter().map(|run| bins(run)).collect();
-    let k = runs.len();
-    let t = threshold as usize;
+    fewest_parts_by(runs, Weighting::Plain, threshold)
+}
+
+/// The same for any weighting.
+pub fn fewest_parts_by(runs: &[&[u32]], weighting: Weighting, threshold: u32) -> usize {
+    let weighed = weighting.each(runs.len()).into_iter();
+    let runs: Vec<(&[u32], u64)> = weighed.map(|(i, w)| (bins(runs[i]), w)).collect();
+    let wanted = u64::from(threshold);
     let mut points: Vec<u64> = vec![FIRST_BIN.into(), 1 << 32];
-    for &x in runs.iter().copied().flatten() {
+    for &x in runs.iter().flat_map(|&(run, _)| run) {
         points.extend([u64::from(x), u64::from(x) + 1]);
     }
     points.sort_unstable();
@@ -34,12 +40,12 @@ pub fn fewest_parts(runs: &[&[u32]], threshold: u32) -> usize {
         for i in 0..j {
             let Some(before) = fewest[i] else { continue };
             let (first, after) = (points[i], points[j]);
-            let holds = |run: &&&[u32]| run.iter().any(|&x| (first..after).contains(&x.into()));
-            let holding = runs.iter().filter(holds).count();
-            let is_answer = after == first + 1 && holding >= t;
-            let missing = k - holding;
-            // At least k - t + 1, put so that no threshold overflows.
-            let is_gap = missing + t > k;
+            let holds = |run: &[u32]| run.iter().any(|&x| (first..after).contains(&x.into()));
+            let holding = runs.iter().filter(|(run, _)| holds(run));
+            let weight: u64 = holding.map(|(_, weight)| weight).sum();
+            let is_answer = after == first + 1 && weight >= wanted;
+            // It names all that miss it and leaves out those that hold a number.
+            let is_gap = weight < wanted;
             if is_answer || is_gap {
                 let parts = before + 1;
                 fewest[j] = Some(fewest[j].map_or(parts, |least| least.min(parts)));

@@ -1,7 +1,7 @@
 //! The checks that come before a walk and before a certificate's fields.
 
 use crate::bins::{bins, first_not_rising};
-use crate::mask::all_runs;
+use crate::weights::{Weighting, Weights};
 
 /// The largest number of runs: one for each bit of a mask.
 pub const MAX_RUNS: usize = 64;
@@ -30,26 +30,36 @@ impl Refusal {
 /// Returns `Ok` if the runs and the threshold pass the first checks, else the
 /// first refusal, of number 1 to 4, in the order of the table.
 pub fn first_checks(numbers: &[u32], ends: &[u32], threshold: u32) -> Result<(), Refusal> {
-    first_checks_chosen(numbers, ends, all_runs(ends.len()), threshold)
+    first_checks_by(numbers, ends, Weighting::Plain, threshold)
 }
 
-/// The same for the runs that `mask` chooses, with 13 between 1 and 2. The
-/// other runs are looked at too, but for the threshold.
-pub fn first_checks_chosen(
+/// The same for any weighting, with 13 of a mask or 17 of weights between 1 and
+/// 2. Runs that are not chosen are looked at too, but for the threshold.
+pub fn first_checks_by(
     numbers: &[u32],
     ends: &[u32],
-    mask: u64,
+    weighting: Weighting,
     threshold: u32,
 ) -> Result<(), Refusal> {
+    checked_weights(numbers, ends, weighting, threshold)?;
+    Ok(())
+}
+
+/// Returns the weights if the first checks pass.
+pub(crate) fn checked_weights(
+    numbers: &[u32],
+    ends: &[u32],
+    weighting: Weighting,
+    threshold: u32,
+) -> Result<Weights, Refusal> {
     check_run_count(ends)?;
-    if !is_choice(mask, ends.len()) {
-        return Err(Refusal::new(13, 0));
-    }
-    if !is_threshold(threshold, mask) {
+    let weights = weighting.weights(ends.len())?;
+    if !weights.allow(threshold) {
         return Err(Refusal::new(2, threshold as usize));
     }
     check_ends(ends, numbers.len())?;
-    check_rising(numbers, ends)
+    check_rising(numbers, ends)?;
+    Ok(weights)
 }
 
 /// Refusal 1.
@@ -58,17 +68,6 @@ pub(crate) fn check_run_count(ends: &[u32]) -> Result<(), Refusal> {
         1..=MAX_RUNS => Ok(()),
         k => Err(Refusal::new(1, k)),
     }
-}
-
-/// Whether the mask names a run, and only runs below `k`.
-pub(crate) fn is_choice(mask: u64, k: usize) -> bool {
-    mask != 0 && mask & !all_runs(k) == 0
-}
-
-/// Whether the threshold is above 0 and not above the number of runs that the
-/// mask names.
-pub(crate) fn is_threshold(threshold: u32, mask: u64) -> bool {
-    (1..=mask.count_ones()).contains(&threshold)
 }
 
 /// Refusal 3, for ends of so many numbers.

@@ -1,14 +1,16 @@
 //! Reference implementation of docs/SPECIFICATION.md: which bins do at least `t`
 //! of `k` rising lists hold? A bin is a number from 1 to 4294967295. A list may
 //! begin with any number of zeros, each the mark of a hit that could not be
-//! mapped, which are passed over.
+//! mapped, which are passed over. Lists may have weights: then those that hold a
+//! bin weigh at least what is wanted.
 //!
 //! It is written from the specification alone, to be compared with other
 //! implementations. Every function outside [`testing`] is total: it never
 //! panics, whatever the input.
 //!
 //! * [`query()`] walks the runs and writes answers and a certificate,
-//!   [`query_many()`] those of many questions, each about some of the runs.
+//!   [`query_weighted()`] does so for runs with weights, [`query_many()`] for many
+//!   questions, each about some of the runs.
 //! * [`check()`] decides whether a certificate is true, and names the first
 //!   wrong field.
 //! * [`between()`] finds the bins of one list between two numbers.
@@ -21,7 +23,9 @@
 //! * [`testing`] is what the tests of this crate and the comparison share.
 //!
 //! A function whose name ends in `chosen` is about those of the runs that a mask
-//! names; the one without is the case in which all are chosen.
+//! names, one whose name ends in `weighted` about runs with weights; the one
+//! without is the case in which all are chosen and each weighs 1. Where a name
+//! ends in `by`, a [`Weighting`] tells which of these is meant.
 
 #![forbid(unsafe_code)]
 #![warn(missing_docs)]
@@ -44,22 +48,22 @@ pub mod testing;
 pub mod text;
 pub mod trace;
 mod walk;
+pub mod weights;
 mod writer;
 
 pub use between::between;
 pub use bins::{bins, first_not_rising, leading_zeros, FIRST_BIN};
 pub use bounds::{digits, probe_bound, probe_bound_chosen};
-pub use certificate::{decode, encode, is_true, is_true_chosen, Part};
-pub use check::{check, check_chosen, Verdict};
-pub use fewest_parts::fewest_parts;
-pub use first_checks::{
-    first_checks, first_checks_chosen, split_runs, Refusal, MAX_NUMBERS, MAX_RUNS,
-};
+pub use certificate::{decode, encode, is_true, is_true_by, Part};
+pub use check::{check, check_by, check_chosen, check_weighted, Verdict};
+pub use fewest_parts::{fewest_parts, fewest_parts_by};
+pub use first_checks::{first_checks, first_checks_by, split_runs, Refusal, MAX_NUMBERS, MAX_RUNS};
 pub use hits::hits;
 pub use lcov::{lcov_run, Reading};
 pub use many::{query_many, ManyOutcome};
 pub use mask::{all_runs, named_runs};
 pub use probes::{Probe, Probes};
-pub use query::{query, Outcome};
+pub use query::{query, query_by, query_weighted, Outcome};
 pub use text::{parse, Question};
-pub use trace::{trace, trace_chosen, Trace};
+pub use trace::{trace, trace_by, Trace};
+pub use weights::{Weighting, MAX_WEIGHT};

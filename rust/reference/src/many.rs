@@ -1,9 +1,8 @@
 //! Many questions over the same runs in one call.
 
-use crate::first_checks::{
-    check_ends, check_rising, check_run_count, is_choice, is_threshold, split_runs, Refusal,
-};
+use crate::first_checks::{check_ends, check_rising, check_run_count, split_runs, Refusal};
 use crate::walk::walk;
+use crate::weights::{Weighting, Weights};
 use crate::writer::{Writer, Written};
 
 /// What [`query_many()`] returns. The counts are those of the whole call.
@@ -78,7 +77,7 @@ pub fn query_many(
         .zip(results.chunks_exact_mut(2));
     for (question, ((&mask, &threshold), reached)) in questions.enumerate() {
         let before = writer.written().parts;
-        let end = walk(&runs, mask, threshold as usize, &mut writer);
+        let end = walk(&runs, &Weights::ones(mask), threshold, &mut writer);
         let written = writer.written();
         if let Err(number) = end {
             let place = written.parts - before;
@@ -123,11 +122,11 @@ fn check_rows(
 /// first question that one of them refuses.
 fn check_questions(k: usize, masks: &[u64], thresholds: &[u32]) -> Result<(), (usize, Refusal)> {
     for (question, (&mask, &threshold)) in masks.iter().zip(thresholds).enumerate() {
-        if !is_choice(mask, k) {
+        let Ok(weights) = Weighting::Chosen(mask).weights(k) else {
             return Err((question, Refusal::new(13, question)));
-        }
-        if !is_threshold(threshold, mask) {
-            let runs = mask.count_ones() as usize;
+        };
+        if !weights.allow(threshold) {
+            let runs = weights.total() as usize;
             return Err((question, Refusal::new(2, runs)));
         }
     }

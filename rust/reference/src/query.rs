@@ -1,8 +1,8 @@
 //! The query, which the specification calls a question.
 
-use crate::first_checks::{first_checks, split_runs, Refusal};
-use crate::mask::all_runs;
+use crate::first_checks::{checked_weights, split_runs, Refusal};
 use crate::walk::walk;
+use crate::weights::Weighting;
 use crate::writer::{Writer, Written};
 
 /// What [`query()`] returns.
@@ -23,9 +23,9 @@ pub enum Outcome {
     },
     /// The first checks or the walk met a refusal.
     Refused {
-        /// The number of the refusal: 1 to 7.
+        /// The number of the refusal: 1 to 7 or 17.
         number: u8,
-        /// The place that the table gives for it: from 5 on the number of
+        /// The place that the table gives for it: for 5 to 7 the number of
         /// parts written.
         place: u64,
         /// How many answers were written.
@@ -53,19 +53,67 @@ pub fn query(
     answers: &mut [u32],
     certificate: &mut [u8],
 ) -> Outcome {
-    if let Err(Refusal { number, place }) = first_checks(numbers, ends, threshold) {
-        return Outcome::Refused {
-            number,
-            place,
-            answers: 0,
-            bytes: 0,
-            doublings: 0,
-            halvings: 0,
-        };
-    }
+    let weighting = Weighting::Plain;
+    query_by(
+        numbers,
+        ends,
+        weighting,
+        threshold,
+        allowance,
+        answers,
+        certificate,
+    )
+}
+
+/// The same for runs that have weights, with 17 among the first checks: those
+/// that hold an answer weigh at least `wanted`.
+pub fn query_weighted(
+    numbers: &[u32],
+    ends: &[u32],
+    weights: &[u32],
+    wanted: u32,
+    allowance: u32,
+    answers: &mut [u32],
+    certificate: &mut [u8],
+) -> Outcome {
+    let weighting = Weighting::Given(weights);
+    query_by(
+        numbers,
+        ends,
+        weighting,
+        wanted,
+        allowance,
+        answers,
+        certificate,
+    )
+}
+
+/// The same for any weighting.
+pub fn query_by(
+    numbers: &[u32],
+    ends: &[u32],
+    weighting: Weighting,
+    threshold: u32,
+    allowance: u32,
+    answers: &mut [u32],
+    certificate: &mut [u8],
+) -> Outcome {
+    let weights = match checked_weights(numbers, ends, weighting, threshold) {
+        Ok(weights) => weights,
+        Err(Refusal { number, place }) => {
+            return Outcome::Refused {
+                number,
+                place,
+                answers: 0,
+                bytes: 0,
+                doublings: 0,
+                halvings: 0,
+            }
+        }
+    };
     let runs = split_runs(numbers, ends);
     let mut writer = Writer::new(allowance, answers, certificate);
-    let end = walk(&runs, all_runs(ends.len()), threshold as usize, &mut writer);
+    let end = walk(&runs, &weights, threshold, &mut writer);
     let Written {
         answers,
         parts,

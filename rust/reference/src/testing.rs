@@ -1,9 +1,9 @@
 //! What the tests of this crate and the comparison share: short forms, rows
-//! from runs, all small inputs, random numbers and marks, and the specification's
-//! instances: queries as a list of runs, threshold, allowance, expected parts
-//! and outcome, checks as one of certificates and verdicts, parts between two
-//! numbers, and those about some of the runs and about tracefiles in lists of
-//! their own.
+//! from runs, all small inputs, random numbers, marks and weights, and the
+//! specification's instances: queries as a list of runs, weights, threshold,
+//! allowance, expected parts and outcome, checks as one of certificates and
+//! verdicts, parts between two numbers, and those about some of the runs, about
+//! checks by weight and about tracefiles in lists of their own.
 
 use crate::{encode, Outcome, Part, Verdict};
 use std::iter;
@@ -11,6 +11,7 @@ use std::iter;
 mod lcov;
 mod many;
 mod marks;
+mod weights;
 
 pub use lcov::{
     lcov_instances, record_forms, LcovInstance, FOUR_SECTIONS, OTHER_LINES, SHORT_RECORD_FORMS,
@@ -20,6 +21,9 @@ pub use many::{
     FIRST_TWO_PARTS, LAST_TWO_PARTS, OUTER_TWO_PARTS,
 };
 pub use marks::{any_marks, mark_later, mark_some, marked, marked_three_runs, BETWEEN_INSTANCES};
+pub use weights::{
+    any_weights, break_weights, weight_of, weighted_checks, Wanted, THREE_WEIGHTED_PARTS,
+};
 
 /// The last bin.
 pub const M: u32 = u32::MAX;
@@ -201,8 +205,8 @@ pub struct Instance {
     pub name: String,
     /// The runs.
     pub runs: Vec<Vec<u32>>,
-    /// How many runs must hold an answer.
-    pub threshold: u32,
+    /// How many runs must hold an answer, or how much they must weigh.
+    pub wanted: Wanted,
     /// The probes allowed: exactly those needed if the query is accepted.
     pub allowance: u32,
     /// The parts written.
@@ -222,7 +226,7 @@ impl Instance {
         Instance {
             name: name.into(),
             runs: runs.iter().map(|run| run.as_ref().to_vec()).collect(),
-            threshold,
+            wanted: Wanted::plain(threshold),
             allowance,
             parts: parts.to_vec(),
             outcome,
@@ -364,6 +368,7 @@ pub fn instances() -> Vec<Instance> {
         ),
     ];
     all.extend(marks::instances());
+    all.extend(weights::instances());
     // Cut in its doubling, at the seam and in its halving.
     for (allowance, probes) in [(3, [3, 0]), (4, [4, 0]), (5, [4, 1]), (6, [4, 2])] {
         all.push(Instance::new(

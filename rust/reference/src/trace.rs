@@ -1,10 +1,10 @@
 //! The whole walk, with nothing that runs out.
 
 use crate::certificate::Part;
-use crate::first_checks::{first_checks_chosen, split_runs, Refusal};
-use crate::mask::all_runs;
+use crate::first_checks::{checked_weights, split_runs, Refusal};
 use crate::probes::{Probe, Probes};
 use crate::walk::{walk, Recorder};
+use crate::weights::Weighting;
 
 /// What [`trace()`] returns.
 #[derive(Clone, Debug, PartialEq, Eq)]
@@ -27,24 +27,24 @@ impl Trace {
 /// Returns the parts of the whole walk and its probes, or the first refusal if
 /// the runs or the threshold fail the first checks.
 pub fn trace(numbers: &[u32], ends: &[u32], threshold: u32) -> Result<Trace, Refusal> {
-    trace_chosen(numbers, ends, all_runs(ends.len()), threshold)
+    trace_by(numbers, ends, Weighting::Plain, threshold)
 }
 
-/// The same of the runs that `mask` chooses, with 13 among the first checks.
-pub fn trace_chosen(
+/// The same for any weighting, with 13 or 17 among the first checks.
+pub fn trace_by(
     numbers: &[u32],
     ends: &[u32],
-    mask: u64,
+    weighting: Weighting,
     threshold: u32,
 ) -> Result<Trace, Refusal> {
-    first_checks_chosen(numbers, ends, mask, threshold)?;
+    let weights = checked_weights(numbers, ends, weighting, threshold)?;
     let runs = split_runs(numbers, ends);
     let mut trace = Trace {
         parts: Vec::new(),
         probes: vec![Probes::default(); ends.len()],
         searches: Vec::new(),
     };
-    walk(&runs, mask, threshold as usize, &mut trace).expect("a trace ends no walk");
+    walk(&runs, &weights, threshold, &mut trace).expect("a trace ends no walk");
     Ok(trace)
 }
 

@@ -6,6 +6,7 @@ use crate::first_checks::MAX_RUNS;
 use crate::heads::Heads;
 use crate::mask::{bit, named_runs};
 use crate::probes::Probe;
+use crate::weights::Weights;
 
 /// Receives what a walk does, in order. An error is the number of the refusal
 /// that ends the walk there.
@@ -20,21 +21,22 @@ pub(crate) trait Recorder {
     fn gap(&mut self, first: u32, last: u32, mask: u64) -> Result<(), u8>;
 }
 
-/// Walks the runs that `chosen` names and no others, each under its number
-/// among all runs, by their bins. They pass the first checks with `threshold`.
+/// Walks the runs that have weights and no others, each under its number among
+/// all runs, by their bins. They pass the first checks with `threshold`.
 /// Returns the number of the refusal if the recorder ends it.
 pub(crate) fn walk<R: Recorder>(
     runs: &[&[u32]; MAX_RUNS],
-    chosen: u64,
-    threshold: usize,
+    weights: &Weights,
+    threshold: u32,
     recorder: &mut R,
 ) -> Result<(), u8> {
+    let chosen = weights.chosen();
     let mut position = [0; MAX_RUNS];
     let mut heads = Heads::new(runs, chosen);
     let mut floor = FIRST_BIN;
     loop {
         // Steps 1 and 2.
-        let Some(v) = heads.nth_smallest(threshold) else {
+        let Some(v) = heads.least_enough(weights, threshold) else {
             let without_head = chosen & !heads.runs();
             return recorder.gap(floor, u32::MAX, without_head);
         };
@@ -57,7 +59,7 @@ pub(crate) fn walk<R: Recorder>(
 
         // Steps 5 and 6.
         let mut moved = below;
-        if holding.count_ones() as usize >= threshold {
+        if weights.of(holding) >= threshold {
             recorder.answer(v, holding)?;
             if v == u32::MAX {
                 return Ok(());

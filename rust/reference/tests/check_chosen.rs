@@ -4,7 +4,7 @@
 use reference::testing::{
     chosen_instances, gap, hit, lay_out, marked_three_runs, slices, M, OUTER_TWO_PARTS, THREE_RUNS,
 };
-use reference::{check, check_chosen, decode, encode, is_true_chosen, Part, Verdict};
+use reference::{check, check_chosen, decode, encode, is_true_by, Part, Verdict, Weighting};
 
 fn invalid(number: u8, place: u64) -> Verdict {
     Verdict::Invalid { number, place }
@@ -23,7 +23,8 @@ fn every_instance() {
             let verdict = check_chosen(&numbers, &ends, mask, threshold, &bytes);
             assert_eq!(verdict, expected, "mask {mask}, threshold {threshold}");
             if !matches!(verdict, Verdict::Invalid { number: 2 | 13, .. }) {
-                let truth = |parts: Vec<Part>| is_true_chosen(&runs, mask, threshold, &parts);
+                let weighting = Weighting::Chosen(mask);
+                let truth = |parts: Vec<Part>| is_true_by(&runs, weighting, threshold, &parts);
                 let truth = decode(&bytes).is_some_and(truth);
                 assert_eq!(truth, matches!(verdict, Verdict::Valid { .. }));
             }

@@ -2,9 +2,9 @@
 
 mod common;
 
-use common::{any_runs, any_threshold, PlainWalk};
+use common::{any_runs, PlainWalk};
 use reference::testing::{Random, M};
-use reference::{hits, Part};
+use reference::{hits, Part, Weighting};
 
 fn prints(input: impl AsRef<[u8]>, expected: &str) {
     let output = String::from_utf8(hits(input.as_ref(), false)).unwrap();
@@ -337,7 +337,7 @@ fn sixty_four_equal_runs() {
 
 /// What the program prints, by the plain walk.
 fn expected_output(runs: &[Vec<u32>], threshold: u32, allowance: u32) -> String {
-    let walk = PlainWalk::new(runs, threshold);
+    let walk = PlainWalk::new(runs, Weighting::Plain, threshold);
     let probes = walk.probes();
     if probes.total() > u64::from(allowance) {
         let (outcome, ..) = walk.stopped(allowance, 1024, 65536);
@@ -367,7 +367,7 @@ fn random_queries() {
     let mut random = Random(2);
     for _ in 0..3_000 {
         let runs = any_runs(&mut random, 8, 20);
-        let threshold = any_threshold(&mut random, &runs);
+        let threshold = random.from_to(1, runs.len()) as u32;
         let allowance = random.below(60) as u32;
         let mut input = format!("{threshold} {allowance}\n");
         for run in &runs {

@@ -2,26 +2,30 @@
 
 mod common;
 
-use common::{ask, counted_answers};
+use common::{ask_for, counted_answers};
 use reference::testing::{accepted, gap, instances, lay_out, slices, Instance, M, THREE_RUNS};
-use reference::{check, decode, encode, fewest_parts, hits, is_true, query, trace, Verdict};
+use reference::{
+    check, check_by, decode, encode, fewest_parts_by, hits, is_true_by, query, trace_by, Outcome,
+    Verdict,
+};
 
 /// Compares an accepted instance with the definitions and the checker.
 fn settle(instance: &Instance, certificate: &[u8]) {
     let Instance {
         name,
         runs,
-        threshold,
+        wanted,
         allowance,
         parts,
         ..
     } = instance;
     let (numbers, ends) = lay_out(runs);
-    let answers = counted_answers(runs, *threshold);
+    let (weighting, threshold) = (wanted.weighting(), wanted.threshold);
+    let answers = counted_answers(runs, weighting, threshold);
     assert_eq!(instance.answers(), answers, "{name}");
     assert_eq!(decode(certificate).unwrap(), *parts, "{name}");
 
-    let whole = trace(&numbers, &ends, *threshold).unwrap();
+    let whole = trace_by(&numbers, &ends, weighting, threshold).unwrap();
     assert_eq!(whole.parts, *parts, "{name}");
     let probes = whole.all_probes();
     assert_eq!(probes.total(), u64::from(*allowance), "{name}");
@@ -36,16 +40,37 @@ fn settle(instance: &Instance, certificate: &[u8]) {
         "{name}"
     );
     assert_eq!(
-        check(&numbers, &ends, *threshold, certificate),
+        check_by(&numbers, &ends, weighting, threshold, certificate),
         Verdict::Valid {
             answers: answers.len() as u64,
             parts: parts.len() as u64,
         },
         "{name}"
     );
-    assert!(is_true(&slices(runs), *threshold, parts), "{name}");
-    let fewest = fewest_parts(&slices(runs), *threshold);
+    let runs = slices(runs);
+    assert!(is_true_by(&runs, weighting, threshold, parts), "{name}");
+    let fewest = fewest_parts_by(&runs, weighting, threshold);
     assert_eq!(fewest, parts.len(), "{name}");
+}
+
+/// The checker refuses at the first checks as the query does, whatever the
+/// certificate.
+fn check_refuses(instance: &Instance) {
+    let Instance {
+        runs,
+        wanted,
+        outcome,
+        ..
+    } = instance;
+    let Outcome::Refused { number, place, .. } = *outcome else {
+        panic!("a walk writes a part");
+    };
+    let (numbers, ends) = lay_out(runs);
+    for bytes in [&[][..], &[7], &encode(&[gap(1, M, 1)])] {
+        let verdict = check_by(&numbers, &ends, wanted.weighting(), wanted.threshold, bytes);
+        let refusal = Verdict::Invalid { number, place };
+        assert_eq!(verdict, refusal, "{}", instance.name);
+    }
 }
 
 /// Asks with exactly as much room as is needed and with ample room.
@@ -59,17 +84,19 @@ fn every_instance() {
             encode(&instance.parts),
         );
         for (answer_room, byte_room) in [(expected.1.len(), expected.2.len()), (1024, 65536)] {
-            let found = ask(
+            let found = ask_for(
                 &instance.runs,
-                instance.threshold,
+                &instance.wanted,
                 instance.allowance,
-                answer_room,
-                byte_room,
+                [answer_room, byte_room],
             );
             assert_eq!(found, expected, "{name}");
         }
         if instance.is_accepted() {
             settle(&instance, &expected.2);
+        }
+        if instance.parts.is_empty() {
+            check_refuses(&instance);
         }
     }
 }

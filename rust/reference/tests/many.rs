@@ -9,7 +9,7 @@ use reference::testing::{
     THREE_RUNS,
 };
 use reference::{
-    check_chosen, decode, encode, is_true_chosen, query_many, trace, trace_chosen, Verdict,
+    check_chosen, decode, encode, is_true_by, query_many, trace, trace_by, Verdict, Weighting,
 };
 
 /// What stands in the row of results before a call.
@@ -69,16 +69,20 @@ fn settle(instance: &ManyInstance) {
         let bytes = &certificates[from[1]..to[1]];
         from = to;
         let (mask, threshold) = (instance.masks[i], instance.thresholds[i]);
+        let weighting = Weighting::Chosen(mask);
         let parts = decode(bytes).unwrap();
-        let whole = trace_chosen(&numbers, &ends, mask, threshold).unwrap();
+        let whole = trace_by(&numbers, &ends, weighting, threshold).unwrap();
         assert_eq!(whole.parts, parts, "{name}");
         let chosen = choose(&instance.runs, mask);
         let alone = lay_out(&chosen);
         let alone = trace(&alone.0, &alone.1, threshold).unwrap().parts;
         assert_eq!(renumber(&alone, mask), parts, "{name}");
-        assert_eq!(common::counted_answers(&chosen, threshold), answers);
         let runs = slices(&instance.runs);
-        assert!(is_true_chosen(&runs, mask, threshold, &parts), "{name}");
+        assert_eq!(
+            common::counted_answers(&runs, weighting, threshold),
+            answers
+        );
+        assert!(is_true_by(&runs, weighting, threshold, &parts), "{name}");
         let valid = Verdict::Valid {
             answers: answers.len() as u64,
             parts: parts.len() as u64,

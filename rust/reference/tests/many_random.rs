@@ -9,8 +9,8 @@ use reference::testing::{
     choose, gap, hit, lay_out, many_row, renumber, slices, small_inputs, Random, M,
 };
 use reference::{
-    all_runs, check_chosen, decode, digits, encode, fewest_parts, is_true_chosen,
-    probe_bound_chosen, query, query_many, Outcome, Part, Probes, Verdict,
+    all_runs, check_chosen, decode, digits, encode, fewest_parts_by, is_true_by,
+    probe_bound_chosen, query, query_many, Outcome, Part, Probes, Verdict, Weighting,
 };
 
 /// Questions over some runs, each with its whole walk.
@@ -55,7 +55,7 @@ impl Asked {
             .into_iter()
             .map(<[u32]>::to_vec)
             .collect();
-        let mut walk = PlainWalk::new(&chosen, threshold);
+        let mut walk = PlainWalk::new(&chosen, Weighting::Plain, threshold);
         for event in &mut walk.events {
             if let Event::Write(part) = event {
                 *part = renumber(&[*part], mask)[0];
@@ -157,18 +157,18 @@ fn whole_walks(random: &mut Random, asked: &Asked) {
     let mut bounds = 0;
     for ((&mask, &threshold), walk) in asked.masks.iter().zip(&asked.thresholds).zip(&asked.walks) {
         let parts = walk.parts();
-        let chosen = choose(&asked.runs, mask);
-        assert_eq!(fewest_parts(&chosen, threshold), parts.len());
-        let runs = slices(&asked.runs);
-        assert!(is_true_chosen(&runs, mask, threshold, &parts));
+        let (runs, weighting) = (slices(&asked.runs), Weighting::Chosen(mask));
+        assert_eq!(fewest_parts_by(&runs, weighting, threshold), parts.len());
+        assert!(is_true_by(&runs, weighting, threshold, &parts));
         let valid = Verdict::Valid {
-            answers: counted_answers(&chosen, threshold).len() as u64,
+            answers: counted_answers(&runs, weighting, threshold).len() as u64,
             parts: parts.len() as u64,
         };
         let verdict = check_chosen(&numbers, &ends, mask, threshold, &encode(&parts));
         assert_eq!(verdict, valid);
         // The sum over the runs' bins; that of the numbers as lent is no smaller.
         let digits = |run: &&[u32]| u64::from(digits(mapped(run).len() as u64));
+        let chosen = choose(&asked.runs, mask);
         let bound = 2 * parts.len() as u64 * chosen.iter().map(digits).sum::<u64>();
         assert!(walk.probes().total() <= bound);
         assert!(probe_bound_chosen(&ends, mask, parts.len() as u32).unwrap() >= bound);
@@ -376,7 +376,8 @@ fn certificates_of_chosen_runs() {
             assert_eq!(verdict, refusal);
             continue;
         }
-        let truth = is_true_chosen(&slices(&asked.runs), mask, threshold, &parts);
+        let weighting = Weighting::Chosen(mask);
+        let truth = is_true_by(&slices(&asked.runs), weighting, threshold, &parts);
         assert_eq!(truth, matches!(verdict, Verdict::Valid { .. }));
         let number = match verdict {
             Verdict::Valid { .. } => 0,

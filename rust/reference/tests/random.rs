@@ -1,14 +1,17 @@
-//! Small inputs of every kind and random ones: the walk against a plain
-//! second form of it, against counting, against the definition of truth and
-//! against the fewest parts possible.
+//! Small inputs of every kind and random ones, with weights and without: the
+//! walk against a plain second form of it, against counting, against the
+//! definition of truth and against the fewest parts possible.
 
 mod common;
 
-use common::{any_runs, any_threshold, counted_answers, long_and_short, mapped, PlainWalk};
-use reference::testing::{accepted, gap, hit, lay_out, slices, small_inputs, Random, M};
+use common::{any_runs, counted_answers, long_and_short, mapped, PlainWalk};
+use reference::testing::{
+    accepted, any_weights, break_weights, gap, hit, lay_out, slices, small_inputs, weight_of,
+    Random, Wanted, M,
+};
 use reference::{
-    check, decode, digits, encode, fewest_parts, is_true, probe_bound, query, trace, Outcome, Part,
-    Verdict,
+    check_by, decode, digits, encode, fewest_parts_by, is_true_by, probe_bound, query_by, trace_by,
+    Outcome, Part, Verdict,
 };
 
 /// Whether to compare with the fewest parts, which takes long for many numbers.
@@ -19,17 +22,18 @@ enum Size {
 }
 
 /// Compares a whole walk with everything known about it.
-fn whole_walk(runs: &[Vec<u32>], threshold: u32, size: Size) {
+fn whole_walk(runs: &[Vec<u32>], wanted: &Wanted, size: Size) {
     let (numbers, ends) = lay_out(runs);
-    let plain = PlainWalk::new(runs, threshold);
+    let (weighting, threshold) = (wanted.weighting(), wanted.threshold);
+    let plain = PlainWalk::new(runs, weighting, threshold);
     let parts = plain.parts();
-    let expected_answers = counted_answers(runs, threshold);
-    let context = || format!("threshold {threshold}, runs {runs:?}");
+    let expected_answers = counted_answers(runs, weighting, threshold);
+    let context = || format!("{wanted:?}, runs {runs:?}");
 
-    let whole = trace(&numbers, &ends, threshold).unwrap();
+    let whole = trace_by(&numbers, &ends, weighting, threshold).unwrap();
     assert_eq!(whole.parts, parts, "{}", context());
     let fewest = match size {
-        Size::Small => fewest_parts(&slices(runs), threshold),
+        Size::Small => fewest_parts_by(&slices(runs), weighting, threshold),
         Size::Large => parts.len(),
     };
     assert_eq!(parts.len(), fewest, "{}", context());
@@ -49,9 +53,10 @@ fn whole_walk(runs: &[Vec<u32>], threshold: u32, size: Size) {
     let bytes = encode(&parts);
     let mut answers = vec![0; expected_answers.len()];
     let mut certificate = vec![0; bytes.len()];
-    let outcome = query(
+    let outcome = query_by(
         &numbers,
         &ends,
+        weighting,
         threshold,
         bounds as u32,
         &mut answers,
@@ -68,10 +73,11 @@ fn whole_walk(runs: &[Vec<u32>], threshold: u32, size: Size) {
     assert_eq!(answers, expected_answers, "{}", context());
     assert_eq!(certificate, bytes, "{}", context());
 
-    assert!(is_true(&slices(runs), threshold, &parts), "{}", context());
+    let truth = is_true_by(&slices(runs), weighting, threshold, &parts);
+    assert!(truth, "{}", context());
     assert_eq!(decode(&certificate).unwrap(), parts);
     assert_eq!(
-        check(&numbers, &ends, threshold, &certificate),
+        check_by(&numbers, &ends, weighting, threshold, &certificate),
         Verdict::Valid {
             answers: counts.0,
             parts: counts.1
@@ -80,13 +86,17 @@ fn whole_walk(runs: &[Vec<u32>], threshold: u32, size: Size) {
 }
 
 /// All runs over the first bin and the last two, each after up to two marks, up
-/// to three runs.
+/// to three runs, with every threshold and with weights that differ.
 #[test]
 fn all_small_inputs() {
     for k in 1..=3 {
+        let weights = &[2, 1, 3][..k as usize];
         for runs in small_inputs(k) {
             for threshold in 1..=k {
-                whole_walk(&runs, threshold, Size::Small);
+                whole_walk(&runs, &Wanted::plain(threshold), Size::Small);
+            }
+            for wanted in 1..=weights.iter().sum() {
+                whole_walk(&runs, &Wanted::weighted(weights, wanted), Size::Small);
             }
         }
     }
@@ -101,40 +111,40 @@ fn random_walks(
 ) {
     for _ in 0..count {
         let runs = runs(random);
-        let threshold = any_threshold(random, &runs);
-        whole_walk(&runs, threshold, size);
+        let wanted = Wanted::any(random, runs.len());
+        whole_walk(&runs, &wanted, size);
     }
 }
 
 #[test]
 fn random_small_walks() {
     let runs = |random: &mut Random| any_runs(random, 6, 8);
-    random_walks(&mut Random(11), 60_000, Size::Small, runs);
+    random_walks(&mut Random(11), 80_000, Size::Small, runs);
 }
 
 #[test]
 fn random_medium_walks() {
     let runs = |random: &mut Random| any_runs(random, 5, 40);
-    random_walks(&mut Random(12), 150, Size::Small, runs);
+    random_walks(&mut Random(12), 250, Size::Small, runs);
 }
 
 #[test]
 fn random_large_walks() {
     let mut random = Random(13);
     let many = |random: &mut Random| any_runs(random, 64, 150);
-    random_walks(&mut random, 150, Size::Large, many);
+    random_walks(&mut random, 250, Size::Large, many);
     let long = |random: &mut Random| {
         let mut runs = any_runs(random, 2, 5_000);
         runs.extend(any_runs(random, 3, 20));
         runs
     };
-    random_walks(&mut random, 50, Size::Large, long);
+    random_walks(&mut random, 80, Size::Large, long);
 }
 
 /// A query on lent buffers filled with noise, with all of their contents.
 struct Stopping {
     runs: Vec<Vec<u32>>,
-    threshold: u32,
+    wanted: Wanted,
     plain: PlainWalk,
     /// What the whole walk needs.
     probes: u32,
@@ -147,20 +157,21 @@ impl Stopping {
     /// Random runs, with no noise yet.
     fn new(random: &mut Random, most_runs: usize, most_numbers: usize) -> Self {
         let runs = any_runs(random, most_runs, most_numbers);
-        let threshold = any_threshold(random, &runs);
-        Stopping::of(runs, threshold)
+        let wanted = Wanted::any(random, runs.len());
+        Stopping::of(runs, wanted)
     }
 
     /// These runs, with no noise yet.
-    fn of(runs: Vec<Vec<u32>>, threshold: u32) -> Self {
-        let plain = PlainWalk::new(&runs, threshold);
+    fn of(runs: Vec<Vec<u32>>, wanted: Wanted) -> Self {
+        let (weighting, threshold) = (wanted.weighting(), wanted.threshold);
+        let plain = PlainWalk::new(&runs, weighting, threshold);
         Stopping {
             probes: plain.probes().total() as u32,
-            answers: counted_answers(&runs, threshold).len(),
+            answers: counted_answers(&runs, weighting, threshold).len(),
             bytes: encode(&plain.parts()).len(),
             noise: Vec::new(),
             runs,
-            threshold,
+            wanted,
             plain,
         }
     }
@@ -181,18 +192,20 @@ impl Stopping {
         let mut expected_certificate = certificate.clone();
         expected_answers[..written.len()].copy_from_slice(&written);
         expected_certificate[..bytes.len()].copy_from_slice(&bytes);
-        let found = query(
+        let (weighting, threshold) = (self.wanted.weighting(), self.wanted.threshold);
+        let found = query_by(
             &numbers,
             &ends,
-            self.threshold,
+            weighting,
+            threshold,
             allowance,
             &mut answers,
             &mut certificate,
         );
         let context = || {
             format!(
-                "allowance {allowance}, room {answer_room} and {byte_room}, threshold {}, runs {:?}",
-                self.threshold, self.runs
+                "allowance {allowance}, room {answer_room} and {byte_room}, {:?}, runs {:?}",
+                self.wanted, self.runs
             )
         };
         assert_eq!(found, outcome, "{}", context());
@@ -202,7 +215,7 @@ impl Stopping {
         // What stands is a beginning of the whole.
         let parts = self.plain.parts();
         assert!(encode(&parts).starts_with(&bytes));
-        let whole = counted_answers(&self.runs, self.threshold);
+        let whole = counted_answers(&self.runs, weighting, threshold);
         assert!(whole.starts_with(&written));
     }
 }
@@ -257,7 +270,12 @@ fn stopping_early_in_long_searches() {
     let mut random = Random(18);
     let mut long_searches = 0;
     for _ in 0..500 {
-        let mut stopping = Stopping::of(long_and_short(&mut random), 2);
+        let wanted = random.pick(&[None, Some([1, 1]), Some([3, 200])]);
+        let wanted = match wanted {
+            None => Wanted::plain(2),
+            Some(weights) => Wanted::weighted(&weights, weights.iter().sum()),
+        };
+        let mut stopping = Stopping::of(long_and_short(&mut random), wanted);
         stopping.make_noise(&mut random, 0);
         for allowance in 0..=stopping.probes {
             stopping.compare(allowance, stopping.answers, stopping.bytes);
@@ -269,34 +287,43 @@ fn stopping_early_in_long_searches() {
 
 /// Certificates of other writers: gaps cut further, masks made smaller, and
 /// often something wrong.
-fn rewritten(random: &mut Random, runs: &[Vec<u32>], threshold: u32) -> Vec<Part> {
-    let k = runs.len() as u32;
+fn rewritten(random: &mut Random, runs: &[Vec<u32>], wanted: &Wanted) -> Vec<Part> {
+    let (weighting, threshold) = (wanted.weighting(), wanted.threshold);
+    let weights = weights_of(runs.len(), wanted);
+    let needed_by_gap = weights.iter().sum::<u32>() - threshold + 1;
     let mut parts = Vec::new();
-    for part in PlainWalk::new(runs, threshold).parts() {
+    for part in PlainWalk::new(runs, weighting, threshold).parts() {
         match part {
             Part::Answer { value, mask } => {
-                parts.push(hit(value, fewer(random, mask, threshold)));
+                parts.push(hit(value, fewer(random, mask, &weights, threshold)));
             }
             Part::Gap { first, last, mask } => {
+                let fewer = |random: &mut Random| fewer(random, mask, &weights, needed_by_gap);
                 let mut start = first;
                 while start < last && random.one_in(2) {
                     let room = (last - start) as usize;
                     let cut = start + random.below(room.min(20)) as u32;
-                    parts.push(gap(start, cut, fewer(random, mask, k - threshold + 1)));
+                    parts.push(gap(start, cut, fewer(random)));
                     start = cut + 1;
                 }
-                parts.push(gap(start, last, fewer(random, mask, k - threshold + 1)));
+                parts.push(gap(start, last, fewer(random)));
             }
         }
     }
     parts
 }
 
-/// The mask without some of its bits, at least `needed` left.
-fn fewer(random: &mut Random, mut mask: u64, needed: u32) -> u64 {
-    for i in 0..64 {
-        if mask.count_ones() > needed && random.one_in(2) {
-            mask &= !(1 << i);
+/// What each of `k` runs weighs.
+fn weights_of(k: usize, wanted: &Wanted) -> Vec<u32> {
+    wanted.weights.clone().unwrap_or(vec![1; k])
+}
+
+/// The mask without some of its bits; those left weigh at least `needed`.
+fn fewer(random: &mut Random, mut mask: u64, weights: &[u32], needed: u32) -> u64 {
+    for i in 0..weights.len() {
+        let without = mask & !(1 << i);
+        if weight_of(weights, without) >= needed && random.one_in(2) {
+            mask = without;
         }
     }
     mask
@@ -368,12 +395,13 @@ fn rest_from(whole: &[Part], next: u64) -> Vec<Part> {
 /// Compares a verdict with the definition of truth. On a refusal all before
 /// the place must be the beginning of a true certificate, and the field at
 /// the place must not be.
-fn compare_verdict(runs: &[Vec<u32>], threshold: u32, bytes: &[u8]) -> Verdict {
+fn compare_verdict(runs: &[Vec<u32>], wanted: &Wanted, bytes: &[u8]) -> Verdict {
     let (numbers, ends) = lay_out(runs);
     let runs = slices(runs);
-    let verdict = check(&numbers, &ends, threshold, bytes);
+    let (weighting, threshold) = (wanted.weighting(), wanted.threshold);
+    let verdict = check_by(&numbers, &ends, weighting, threshold, bytes);
     let parts = decode(bytes);
-    let truth = |parts: &[Part]| is_true(&runs, threshold, parts);
+    let truth = |parts: &[Part]| is_true_by(&runs, weighting, threshold, parts);
     match verdict {
         Verdict::Valid { answers, parts: n } => {
             let parts = parts.unwrap();
@@ -384,7 +412,8 @@ fn compare_verdict(runs: &[Vec<u32>], threshold: u32, bytes: &[u8]) -> Verdict {
         }
         Verdict::Invalid { number, place } => {
             assert!(!parts.is_some_and(|parts| truth(&parts)));
-            let whole = trace(&numbers, &ends, threshold).unwrap().parts;
+            let whole = trace_by(&numbers, &ends, weighting, threshold);
+            let whole = whole.unwrap().parts;
             let next = |parts: &[Part]| parts.last().map_or(1, |part| u64::from(part.last()) + 1);
             let before = decode(&bytes[..place as usize]).unwrap();
             let uncovered = next(&before);
@@ -408,17 +437,29 @@ fn compare_verdict(runs: &[Vec<u32>], threshold: u32, bytes: &[u8]) -> Verdict {
                 assert_eq!(number, 9);
                 return verdict;
             }
-            let names = (0..64).filter(|i| part.mask() >> i & 1 == 1);
-            let (k, t) = (runs.len() as u32, threshold);
-            let needed = match part {
-                Part::Answer { .. } => t,
-                Part::Gap { .. } => k - t + 1,
-            };
-            let named_well = names.clone().all(|i| i < k) && names.count() as u32 >= needed;
+            let named_well = names_well(part, &weights_of(runs.len(), wanted), threshold);
             assert_eq!(number, if named_well { 11 } else { 10 });
         }
     }
     verdict
+}
+
+/// Whether a part names runs that there are, and enough of them. Of runs that
+/// weigh 1 each, by how many they are.
+fn names_well(part: Part, weights: &[u32], threshold: u32) -> bool {
+    let (k, total) = (weights.len() as u32, weights.iter().sum::<u32>());
+    let names = (0..64).filter(|i| part.mask() >> i & 1 == 1);
+    if !names.clone().all(|i| i < k) {
+        return false;
+    }
+    let count = names.count() as u32;
+    let weight = weight_of(weights, part.mask());
+    match part {
+        Part::Answer { .. } if total == k => count >= threshold,
+        Part::Answer { .. } => weight >= threshold,
+        Part::Gap { .. } if total == k => count > k - threshold,
+        Part::Gap { .. } => total - weight < threshold,
+    }
 }
 
 #[test]
@@ -427,12 +468,13 @@ fn random_certificates() {
     let mut seen = [0; 12];
     for _ in 0..120_000 {
         let runs = any_runs(&mut random, 5, 6);
-        let threshold = any_threshold(&mut random, &runs);
-        let mut parts = rewritten(&mut random, &runs, threshold);
+        let wanted = Wanted::any(&mut random, runs.len());
+        let mut parts = rewritten(&mut random, &runs, &wanted);
         let bytes = encode(&parts);
-        let verdict = compare_verdict(&runs, threshold, &bytes);
+        let verdict = compare_verdict(&runs, &wanted, &bytes);
         assert!(matches!(verdict, Verdict::Valid { .. }));
-        assert!(fewest_parts(&slices(&runs), threshold) <= parts.len());
+        let fewest = fewest_parts_by(&slices(&runs), wanted.weighting(), wanted.threshold);
+        assert!(fewest <= parts.len());
 
         for _ in 0..=random.below(3) {
             if !parts.is_empty() {
@@ -443,7 +485,7 @@ fn random_certificates() {
         if random.one_in(3) {
             damage_bytes(&mut random, &mut damaged);
         }
-        match compare_verdict(&runs, threshold, &damaged) {
+        match compare_verdict(&runs, &wanted, &damaged) {
             Verdict::Valid { .. } => seen[0] += 1,
             Verdict::Invalid { number, .. } => seen[number as usize] += 1,
         }
@@ -457,8 +499,8 @@ fn random_certificates() {
 #[test]
 fn random_noise() {
     let mut random = Random(17);
-    let (mut marked, mut marked_later) = (0, 0);
-    for _ in 0..50_000 {
+    let (mut marked, mut marked_later, mut misweighed) = (0, 0, 0);
+    for _ in 0..80_000 {
         let small = |random: &mut Random| match random.below(12) {
             0 => random.word(),
             n => n as u32 / 2,
@@ -472,24 +514,34 @@ fn random_noise() {
             ends.sort_unstable();
             ends.push(numbers.len() as u32);
         }
-        let threshold = small(&mut random);
+        let mut wanted = Wanted::plain(small(&mut random));
+        if random.one_in(2) {
+            let weights = any_weights(&mut random, ends.len());
+            let threshold = random.pick(&[wanted.threshold, weights.iter().sum()]);
+            wanted = Wanted::weighted(&weights, threshold);
+        }
+        if let (Some(weights), true) = (&mut wanted.weights, random.one_in(3)) {
+            break_weights(&mut random, weights);
+        }
+        let (weighting, threshold) = (wanted.weighting(), wanted.threshold);
         let bytes: Vec<u8> = (0..random.below(40)).map(|_| random.bits() as u8).collect();
-        let verdict = check(&numbers, &ends, threshold, &bytes);
+        let verdict = check_by(&numbers, &ends, weighting, threshold, &bytes);
         let mut answers = [7; 3];
         let mut certificate = [7; 60];
-        let outcome = query(
+        let outcome = query_by(
             &numbers,
             &ends,
+            weighting,
             threshold,
             small(&mut random),
             &mut answers,
             &mut certificate,
         );
         // Both refuse at the first checks or neither does.
-        let expected = first_refusal(&numbers, &ends, threshold);
+        let expected = first_refusal(&numbers, &ends, &wanted);
         match outcome {
             Outcome::Refused {
-                number: number @ 1..=4,
+                number: number @ (1..=4 | 17),
                 place,
                 ..
             } => {
@@ -497,27 +549,37 @@ fn random_noise() {
                 assert_eq!(verdict, Verdict::Invalid { number, place });
                 assert_eq!((answers, certificate), ([7; 3], [7; 60]));
                 marked_later += u32::from(number == 4 && numbers[place as usize] == 0);
+                misweighed += u32::from(number == 17);
             }
             _ => {
                 assert_eq!(expected, None);
-                assert!(!matches!(verdict, Verdict::Invalid { number: 1..=4, .. }));
+                let is_first = |number| matches!(number, 1..=4 | 17);
+                assert!(!matches!(verdict, Verdict::Invalid { number, .. } if is_first(number)));
                 marked += u32::from(ends[0] > 1 && numbers.starts_with(&[0, 0]));
             }
         }
     }
     assert!(
-        marked > 500 && marked_later > 200,
-        "{marked}, {marked_later}"
+        marked > 500 && marked_later > 200 && misweighed > 5_000,
+        "{marked}, {marked_later}, {misweighed}"
     );
 }
 
 /// The first checks once more, over all numbers with the run of each.
-fn first_refusal(numbers: &[u32], ends: &[u32], threshold: u32) -> Option<(u8, u64)> {
+fn first_refusal(numbers: &[u32], ends: &[u32], wanted: &Wanted) -> Option<(u8, u64)> {
     let k = ends.len() as u64;
     if !(1..=64).contains(&k) {
         return Some((1, k));
     }
-    if !(1..=k).contains(&u64::from(threshold)) {
+    let weights = weights_of(ends.len(), wanted);
+    if weights.len() as u64 != k {
+        return Some((17, k));
+    }
+    if let Some(i) = (0..weights.len()).find(|&i| weights[i] == 0 || weights[i] > 255) {
+        return Some((17, i as u64));
+    }
+    let (total, threshold) = (weights.iter().sum::<u32>(), wanted.threshold);
+    if !(1..=total).contains(&threshold) {
         return Some((2, u64::from(threshold)));
     }
     if let Some(i) = (1..ends.len()).find(|&i| ends[i - 1] > ends[i]) {

@@ -4,8 +4,10 @@
 // Each test file is a program of its own and uses only some of this.
 #![allow(dead_code)]
 
-use reference::testing::{accepted, answers_of, gap, hit, lay_out, mark_some, refused, Random, M};
-use reference::{encode, query, Outcome, Part, Probe, Probes};
+use reference::testing::{
+    accepted, answers_of, gap, hit, lay_out, mark_some, refused, Random, Wanted, M,
+};
+use reference::{encode, query_by, Outcome, Part, Probe, Probes, Weighting};
 use std::collections::BTreeMap;
 
 /// What stands in a buffer before a query.
@@ -19,17 +21,21 @@ pub fn mapped(run: &[u32]) -> &[u32] {
     &run[marks..]
 }
 
-/// The bins that at least `threshold` runs hold, found by counting.
-pub fn counted_answers<R: AsRef<[u32]>>(runs: &[R], threshold: u32) -> Vec<u32> {
+/// The bins that runs of at least that weight hold, found by adding up.
+pub fn counted_answers<R: AsRef<[u32]>>(
+    runs: &[R],
+    weighting: Weighting,
+    threshold: u32,
+) -> Vec<u32> {
     let mut counts = BTreeMap::new();
-    for run in runs {
-        for &x in mapped(run.as_ref()) {
-            *counts.entry(x).or_insert(0_u32) += 1;
+    for (i, weight) in weighting.each(runs.len()) {
+        for &x in mapped(runs[i].as_ref()) {
+            *counts.entry(x).or_insert(0) += weight;
         }
     }
     counts
         .into_iter()
-        .filter(|&(_, count)| count >= threshold)
+        .filter(|&(_, count)| count >= u64::from(threshold))
         .map(|(x, _)| x)
         .collect()
 }
@@ -43,13 +49,25 @@ pub fn ask<R: AsRef<[u32]>>(
     answer_room: usize,
     byte_room: usize,
 ) -> (Outcome, Vec<u32>, Vec<u8>) {
+    let wanted = Wanted::plain(threshold);
+    ask_for(runs, &wanted, allowance, [answer_room, byte_room])
+}
+
+/// The same for runs that may have weights.
+pub fn ask_for<R: AsRef<[u32]>>(
+    runs: &[R],
+    wanted: &Wanted,
+    allowance: u32,
+    [answer_room, byte_room]: [usize; 2],
+) -> (Outcome, Vec<u32>, Vec<u8>) {
     let (numbers, ends) = lay_out(runs);
     let mut answers = vec![FILLER; answer_room];
     let mut certificate = vec![FILLER_BYTE; byte_room];
-    let outcome = query(
+    let outcome = query_by(
         &numbers,
         &ends,
-        threshold,
+        wanted.weighting(),
+        wanted.threshold,
         allowance,
         &mut answers,
         &mut certificate,
@@ -124,11 +142,6 @@ pub fn long_and_short(random: &mut Random) -> Vec<Vec<u32>> {
     runs
 }
 
-/// A threshold from 1 to the number of runs.
-pub fn any_threshold(random: &mut Random, runs: &[Vec<u32>]) -> u32 {
-    1 + random.below(runs.len()) as u32
-}
-
 /// One thing that a walk does.
 #[derive(Clone, Copy, Debug, PartialEq, Eq)]
 pub enum Event {
@@ -148,8 +161,14 @@ pub struct PlainWalk {
 }
 
 impl PlainWalk {
-    pub fn new(runs: &[Vec<u32>], threshold: u32) -> Self {
-        let t = threshold as usize;
+    /// The walk of runs that are all chosen.
+    pub fn new(runs: &[Vec<u32>], weighting: Weighting, threshold: u32) -> Self {
+        let is_enough = |mask: u64| {
+            let named = |run: &&(usize, u64)| mask >> run.0 & 1 == 1;
+            let weighed = weighting.each(runs.len());
+            let weight: u64 = weighed.iter().filter(named).map(|run| run.1).sum();
+            weight >= threshold.into()
+        };
         let mut walk = PlainWalk {
             events: Vec::new(),
             searches: Vec::new(),
@@ -159,15 +178,15 @@ impl PlainWalk {
         let mut left: Vec<&[u32]> = runs.iter().map(|run| mapped(run)).collect();
         let mut floor = 1;
         loop {
-            let mut heads: Vec<u32> = left.iter().filter_map(|run| run.first().copied()).collect();
-            if heads.len() < t {
+            if !is_enough(mask(&left, |head| head.is_some())) {
                 let mask = mask(&left, |head| head.is_none());
                 walk.events.push(Event::Write(gap(floor, M, mask)));
                 return walk;
             }
             walk.full_rounds += 1;
-            heads.sort_unstable();
-            let v = heads[t - 1];
+            let heads = left.iter().filter_map(|run| run.first().copied());
+            let at_most = |v: u32| mask(&left, |head| head.is_some_and(|x| x <= v));
+            let v = heads.filter(|&v| is_enough(at_most(v))).min().unwrap();
             if floor < v {
                 let mask = mask(&left, |head| head.is_none_or(|x| x >= v));
                 walk.events.push(Event::Write(gap(floor, v - 1, mask)));
@@ -184,7 +203,7 @@ impl PlainWalk {
             }
             let holding = mask(&left, |head| head == Some(v));
             floor = v;
-            if holding.count_ones() as usize >= t {
+            if is_enough(holding) {
                 walk.events.push(Event::Write(hit(v, holding)));
                 if v == M {
                     return walk;
