@@ -97,8 +97,8 @@ extern "C" {
 /**
  * An allowance of probes that is always enough, with weights or without:
  * 2 * 1048576 * 21. With it, or any larger one, refusal 7 never occurs. (Proved:
- * `always-enough`, `weighted-always-enough`.) Without weights 2 * n * b is enough
- * too, for n numbers in all, b being the binary digits of n (`numbers-enough`). Many
+ * `always-enough`, `weighted-always-enough`.) So is 2 * n * b for n numbers in all,
+ * b being the binary digits of n (`numbers-enough`, `weighted-numbers-enough`). Many
  * questions in one call need at most this for each of them. (Proved:
  * `many-always-enough`.)
  */
