@@ -8,14 +8,14 @@ use Rattle.quorum_rows.proofs.written.Tie as tie
 
 returns : tie.Need-returns
 unfolding writtenOf
-returns c = let a = c .before .args in rw (lt-leb 5 (a .number) (c .if1 .taken), writtenOf)
+returns c = let a = c .before .args in rw (lt-leb 5 (a .number) (omega (arith, c .if1 .taken)), writtenOf)
 
 returns-2 : tie.Need-returns-2
 unfolding writtenOf
 returns-2 c =
     let e = c .before in
     let a = e .before .args in
-    rw (le-leb 5 (a .number) (e .if1 .left), lt-leb (a .number) 7 (c .if2 .taken), writtenOf)
+    rw (le-leb 5 (a .number) (omega (arith, c .if2 .taken)), lt-leb (a .number) 7 (omega (arith, c .if2 .taken)), writtenOf)
 
 u64-of-usize-requires : tie.Need-u64-of-usize-requires
 u64-of-usize-requires c κs = search needs

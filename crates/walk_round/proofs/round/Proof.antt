@@ -18,8 +18,9 @@ reached-head-requires : tie.Need-reached-head-requires
 reached-head-requires c κs =
     let s = c .before .before .before .before .before .before .before .before in
     let a = s .args in
-    reach-ready (a .numbers .now) (a .ends .now) (a .weights .now) (a .positions .now) (a .keys .now) (a .answers .now) (a .certificate .now) (a .chosen) (a .threshold) (a .w)
-    (s .pre .0) (s .pre .1) (s .pre .2)
+    let r = reach-ready (a .numbers .now) (a .ends .now) (a .weights .now) (a .positions .now) (a .keys .now) (a .answers .now) (a .certificate .now) (a .chosen) (a .threshold) (a .w)
+    (s .pre .0) (s .pre .1) (s .pre .2) in
+    (omega (arith, r .0), r .1, r .2)
 
 enum-known-v : tie.Need-enum-known-v
 enum-known-v c = search needs

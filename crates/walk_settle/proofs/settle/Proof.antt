@@ -2,6 +2,7 @@
 use Prim.Native.Nat.{_+_, _*_}
 use lib.ListN.{drop}
 use mathlib.Core.Path.{_≡_, ap, _∙_, subst}
+use native.Mathlib.Omega.{arith}
 use Rattle.walk_keys.specs.Row.{belowCount}
 use Rattle.walk_write.specs.Writes.{Answers}
 use Rattle.walk_settle.proofs.Passing.{front-asks}
@@ -60,7 +61,7 @@ returns c =
     let a = s .args in
     no-answer (a .numbers .now) (a .ends .now) (a .weights .now) (a .positions .now) (a .keys .now) (a .threshold) (a .w) (f .front .result .count)
     (f .front .result .named) (s .pre .0) (counts f) (f .front .ensures .1) (a .answers .now) (a .certificate .now) (h .weight-here .result) (h .weight-here .ensures)
-    (s .pre .1) (c .if1 .taken)
+    (s .pre .1) (omega (arith, c .if1 .taken, s .pre .0 .some))
 
 write-answer-requires : tie.Need-write-answer-requires
 write-answer-requires c κs = search needs

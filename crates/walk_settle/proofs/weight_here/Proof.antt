@@ -10,7 +10,7 @@ use Rattle.walk_settle.proofs.weight_here.Tie as tie
 named-weight-requires : tie.Need-named-weight-requires
 named-weight-requires c κs =
     let s = c .before .before in
-    (s .pre .1 .few, s .pre .1 .within (c .if1 .taken))
+    (s .pre .1 .few, s .pre .1 .within (omega (arith, c .if1 .taken)))
 
 returns : tie.Need-returns
 returns c = search needs

@@ -12,8 +12,8 @@ use Rattle.weights.proofs.sum.Statement.{statement}
 use Rattle.weights.proofs.sum.Tie as tie
 
 record Here (weights : List ℕ) (total i : ℕ) : Type 0 where
-  bound : i ≤ length weights
   same : total ≡ sumOfWeights (take i weights)
+  bound : i ≤ length weights
   small : total ≤ i * 4294967296
 
 abbrev Inv-loop : tie.InvT-loop
@@ -23,7 +23,7 @@ abbrev μ-loop : tie.MeasureT-loop
 μ-loop weights total₀ i₀ total i = length weights - i
 
 loop-holds : tie.Need-loop-holds Inv-loop μ-loop
-loop-holds c = record { bound = omega arith; same = sym sum-none; small = omega arith }
+loop-holds c = record { same = sym sum-none; bound = omega arith; small = omega arith }
 
 mul-usize-of-u32 : tie.Need-mul-usize-of-u32 Inv-loop μ-loop
 mul-usize-of-u32 c = search needs
@@ -55,8 +55,8 @@ loop-again c =
     let m = sum-one-more (s .args .weights .now) (l .loop .i) (omega arith) in
     let e : l .loop .i + 1 ≡ suc (l .loop .i) = omega arith in
     record {
-      bound = omega arith;
       same = rw e (omega (arith, l .loop .inv .same, c .usize-of-u32 .ensures));
+      bound = omega arith;
       small = omega (arith, l .loop .inv .small, c .usize-of-u32 .ensures);
     }
 
