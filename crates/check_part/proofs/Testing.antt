@@ -15,14 +15,14 @@ use Rattle.field_read.specs.declared.Part.the-variants.{Answer, Gap}
 use Rattle.model.proofs.Chosen.{chosen-nil, chosen-in, chosen-out, chosen-mem, chosen-weight, all-chosen-mask}
 use Rattle.model.proofs.Count.{weight-not, weight-none}
 use Rattle.model.proofs.FirstChecks.{all-length, all-labelled}
-use Rattle.model.proofs.Masks.{and-bit, below-only, only-below}
+use Rattle.model.proofs.Masks.{and-bit}
 use Rattle.model.proofs.Tests.{both, lt-or-le, or-false, true-false}
 use Rattle.model.proofs.Weighted.{weighted-labelled, weighted-length}
 use Rattle.model.specs.Certificate.{Part, answer, gap, firstOf, lastOf}
 use Rattle.model.specs.Refusals.{_then_, refuseIf, misplaced, namesOther, misnamed, contradicts, anyContradicts, checkPart}
 use Rattle.model.specs.Runs.{Run, pastBin, runs, weightedRun, weighted, weightOf, weightOfAll, bit, names, chosen, maskOfAll, mostRuns}
-use Rattle.weights.proofs.Named.{named-weight}
-use Rattle.weights.specs.Named.{namedWeight, Weighs}
+use Rattle.weights.proofs.Named.{named-weight, only-of}
+use Rattle.weights.specs.Named.{namedWeight}
 use Rattle.check_cursor.specs.Cursors.{Cursors}
 use Rattle.check_scan.specs.Scan.{claim}
 use Rattle.check_scan.proofs.Naming.{unnamed}
@@ -36,20 +36,11 @@ misnames-few b x y few e h = rw (e, h)
 pub misnames-other : (b c : Bool) → b ≡ false → true ≡ (not b || c)
 misnames-other b c e = rw e
 
--- it names no run from k on, if the mask of the chosen names none
-only-chosen : (m c k : ℕ) → c < 2 ^ k → bitAnd m c ≡ m → m < 2 ^ k
-only-chosen m c k w n = only-below m k (λ i q. below-only c k i w (and-bit m c i n q))
-
--- and each run that it names has a weight, if each chosen one has
-pub named-weigh : (m c : ℕ) (weights : List ℕ) → eqb (bitAnd m c) m ≡ true → Weighs c weights → Weighs m weights
-named-weigh m c weights e w =
-    record { few = w .few; within = λ h. only-chosen m c (length weights) (w .within h) (eqb-true (bitAnd m c) m e) }
-
 named-only : (m c : ℕ) (d b : Bool) → b ≡ (not (eqb (bitAnd m c) m) || d) → b ≡ false → bitAnd m c ≡ m
 named-only m c d b e h = eqb-true (bitAnd m c) m (not-false (eqb (bitAnd m c) m) (or-false (not (eqb (bitAnd m c) m)) d (sym e ∙ h) .0))
 
 pub named-below : (m c k : ℕ) (d b : Bool) → c < 2 ^ k → b ≡ (not (eqb (bitAnd m c) m) || d) → b ≡ false → m < 2 ^ k
-named-below m c k d b w e h = only-chosen m c k w (named-only m c d b e h)
+named-below m c k d b w e h = only-of m c k w (named-only m c d b e h)
 
 unchosen : (m c : ℕ) (r : Run) → bitAnd m c ≡ m → names c r ≡ false → names m r ≡ false
 unfolding names
@@ -100,7 +91,7 @@ module _ (numbers ends weights : List ℕ) (c : ℕ) (k : length ends ≤ mostRu
   named-chosen : (m : ℕ) → bitAnd m c ≡ m → weightOf (names m) (chosenRuns numbers ends weights c) ≡ namedWeight weights m
   named-chosen m e =
       chosen-weight c (names m) (weighted weights (runs numbers ends)) (λ r n q. unchosen m c r e q)
-      ∙ of-runs m (only-chosen m c (length ends) w e)
+      ∙ of-runs m (only-of m c (length ends) w e)
 
   pub all-chosen : weightOfAll (chosenRuns numbers ends weights c) ≡ namedWeight weights c
   all-chosen =
@@ -206,16 +197,16 @@ pub gap-last : (f l m : ℕ) → lastOf (claim false f l m) ≡ l
 unfolding claim lastOf
 gap-last f l m = refl
 
-pub answer-checked : (numbers ends weights : List ℕ) (c b v m t few : ℕ) (cursors : List ℕ) (n : ℕ) (q : code.Part) → q ≡ Answer v m
-    → Choice ends weights c t few → Tested numbers ends weights c b true v v m t cursors n → PartChecked numbers ends weights c t b (partOf q) cursors n
+pub answer-checked : (numbers ends weights : List ℕ) (c b v m t total : ℕ) (cursors : List ℕ) (n : ℕ) (q : code.Part) → q ≡ Answer v m
+    → Choice ends weights c t total → Tested numbers ends weights c b true v v m t cursors n → PartChecked numbers ends weights c t b (partOf q) cursors n
 unfolding claim needed partOf
-answer-checked numbers ends weights c b v m t few cursors n q e k h =
+answer-checked numbers ends weights c b v m t total cursors n q e k h =
     subst (λ x. PartChecked numbers ends weights c t b (partOf x) cursors n) (sym e)
     (record { refused-by = λ at. h .refused-by t at (k .met) refl; ready = h .ready })
 
-pub gap-checked : (numbers ends weights : List ℕ) (c b f l m t few : ℕ) (cursors : List ℕ) (n : ℕ) (q : code.Part) → q ≡ Gap f l m
-    → Choice ends weights c t few → Tested numbers ends weights c b false f l m few cursors n → PartChecked numbers ends weights c t b (partOf q) cursors n
+pub gap-checked : (numbers ends weights : List ℕ) (c b f l m t total : ℕ) (cursors : List ℕ) (n : ℕ) (q : code.Part) → q ≡ Gap f l m
+    → Choice ends weights c t total → Tested numbers ends weights c b false f l m (total - t + 1) cursors n → PartChecked numbers ends weights c t b (partOf q) cursors n
 unfolding claim needed partOf
-gap-checked numbers ends weights c b f l m t few cursors n q e k h =
+gap-checked numbers ends weights c b f l m t total cursors n q e k h =
     subst (λ x. PartChecked numbers ends weights c t b (partOf x) cursors n) (sym e)
-    (record { refused-by = λ at. h .refused-by t at (k .met) (k .gap); ready = h .ready })
+    (record { refused-by = λ at. h .refused-by t at (k .met) (ap (λ x. x - t + 1) (k .all)); ready = h .ready })

@@ -20,13 +20,14 @@ unfoldable pub needed : ℕ → ℕ → Bool → ℕ
 needed all t true = t
 needed all t false = all - t + 1
 
--- A mask that chooses some of the runs with these ends, a row with a weight for each run that it chooses or none at all, a threshold that is not above what these
--- weigh, and how much those of them that a gap names must weigh.
-pub record Choice (ends weights : List ℕ) (c t few : ℕ) : Type 0 where
+-- A mask that chooses some of the runs with these ends, a row with a weight for each run that it chooses or none at all, what these runs weigh, and a threshold
+-- that is neither 0 nor above it.
+pub record Choice (ends weights : List ℕ) (c t total : ℕ) : Type 0 where
   pub within : c < 2 ^ length ends
   pub row : Weighs c weights
+  pub all : total ≡ namedWeight weights c
+  pub some : 0 < t
   pub met : t ≤ namedWeight weights c
-  pub gap : few ≡ namedWeight weights c - t + 1
 
 -- a refusal's number at an offset, 0 where there is none
 unfoldable pub numbered : ℕ → ℕ → model.Check

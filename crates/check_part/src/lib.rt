@@ -14,13 +14,13 @@ ghost use Rattle.check_scan.specs.Scan.{claim};
 ghost use Rattle.check_part.specs.Tested.{Choice, Tested, PartChecked};
 use field_read::Part;
 
-// Whether the mask names a run that is not chosen, or runs that weigh less than `few` together.
-fn misnames(mask: u64, chosen: u64, weights: &[u32], few: usize) -> bool
-    requires { ⌜ Weighs chosen (now weights) ⌝ }
+// Whether the mask names a run that is not chosen, or runs that weigh less than `few` together. The chosen runs weigh `total`.
+fn misnames(mask: u64, chosen: u64, weights: &[u32], total: usize, few: usize) -> bool
+    requires { ⌜ Weighs chosen (now weights) × (total ≡ namedWeight (now weights) chosen) ⌝ }
     ensures { λ r. ⌜ r ≡ (not (eqb (bitAnd mask chosen) mask) || ltb (namedWeight (now (weights .entry)) mask) few) ⌝ }
 {
     if mask::names_only(mask, chosen) {
-        return weights::weight_of(mask, weights) < few;
+        return weights::weight_among(mask, chosen, total, weights) < few;
     }
     true
 }
@@ -37,9 +37,10 @@ fn tested(
     last: u32,
     mask: u64,
     held: bool,
+    total: usize,
     few: usize,
 ) -> u8
-    requires { ⌜ Cursors (now numbers) (now ends) (now cursors) bin × (lastOf (claim held first last mask) ≡ last) × (chosen < 2 ^ length (now ends)) × Weighs chosen (now weights) ⌝ }
+    requires { ⌜ Cursors (now numbers) (now ends) (now cursors) bin × (lastOf (claim held first last mask) ≡ last) × (chosen < 2 ^ length (now ends)) × Weighs chosen (now weights) × (total ≡ namedWeight (now weights) chosen) ⌝ }
     ensures { λ r. ⌜ Tested (now (numbers .entry)) (now (ends .entry)) (now (weights .entry)) chosen bin held first last mask few (now (cursors .exit)) r ⌝ }
 {
     if first as u64 != bin {
@@ -48,7 +49,7 @@ fn tested(
     if last < first {
         return 9;
     }
-    if misnames(mask, chosen, weights, few) {
+    if misnames(mask, chosen, weights, total, few) {
         return 10;
     }
     if check_scan::contradicted(numbers, ends, cursors, first, last, mask, held) {
@@ -57,22 +58,23 @@ fn tested(
     0
 }
 
-// The number of the refusal of a part at the next uncovered bin, or 0. The chosen runs that an answer names must weigh `threshold`, those that a gap names `few`:
-// of k runs that weigh 1 each, k − threshold + 1.
+// The number of the refusal of a part at the next uncovered bin, or 0. The chosen runs weigh `total`. Those that an answer names must weigh `threshold`, and those
+// that a gap names `few`, so that the others weigh less than the threshold.
 pub fn check_part(
     numbers: &[u32],
     ends: &[u32],
     weights: &[u32],
     chosen: u64,
     threshold: usize,
-    few: usize,
+    total: usize,
     cursors: &mut [u64],
     bin: u64,
     part: Part,
 ) -> u8
-    requires { ⌜ Cursors (now numbers) (now ends) (now cursors) bin × Choice (now ends) (now weights) chosen threshold few ⌝ }
+    requires { ⌜ Cursors (now numbers) (now ends) (now cursors) bin × Choice (now ends) (now weights) chosen threshold total ⌝ }
     ensures { λ r. ⌜ PartChecked (now (numbers .entry)) (now (ends .entry)) (now (weights .entry)) chosen threshold bin (partOf part) (now (cursors .exit)) r ⌝ }
 {
+    let few = total - threshold + 1;
     match part {
         Part::Answer { value, mask } => tested(
             numbers,
@@ -85,6 +87,7 @@ pub fn check_part(
             value,
             mask,
             true,
+            total,
             threshold,
         ),
         Part::Gap { first, last, mask } => tested(
@@ -98,6 +101,7 @@ pub fn check_part(
             last,
             mask,
             false,
+            total,
             few,
         ),
     }

@@ -1,5 +1,5 @@
 -- What the checks return is the model's verdict, and demand 2 holds of it; and what the first checks give. Assumes nothing.
-use Prim.Native.Nat.{ℕ, _+_, _-_, _^_, _≤_, _<_}
+use Prim.Native.Nat.{ℕ, _-_, _^_, _≤_, _<_}
 use lib.ListN.{length}
 use lib.Pow.{pow-pos, pow-mono}
 use mathlib.Core.List.{List, []}
@@ -113,9 +113,10 @@ weighted-checkable numbers ends weights wanted e =
       met = omega arith;
     }
 
--- what a gap's runs must weigh
+-- what the chosen runs weigh
 pub choice : (numbers ends weights : List ℕ) (m t u n : ℕ) → Checkable numbers ends weights m t → u ≡ t → n ≡ namedWeight weights m
-    → Choice ends weights m u (n - u + 1)
+    → Choice ends weights m u n
 choice numbers ends weights m t u n c q e =
     let h = c .met in
-    record { within = c .within; row = c .row; met = omega arith; gap = ap (λ x. x - u + 1) e }
+    let s = c .some in
+    record { within = c .within; row = c .row; all = e; some = omega arith; met = omega arith }

@@ -52,18 +52,18 @@ fn refused(number: u8, place: usize) -> Verdict
     }
 }
 
-// Checks the parts one after another by the runs that the mask chooses; each field is settled before the next is read.
+// Checks the parts one after another by the runs that the mask chooses, which weigh `total`; each field is settled before the next is read.
 fn check_parts(
     numbers: &[u32],
     ends: &[u32],
     weights: &[u32],
     mask: u64,
     threshold: usize,
-    few: usize,
+    total: usize,
     cursors: &mut [u64],
     certificate: &[u8],
 ) -> Verdict
-    requires { ⌜ Cursors (now numbers) (now ends) (now cursors) firstBin × Choice (now ends) (now weights) mask threshold few ⌝ }
+    requires { ⌜ Cursors (now numbers) (now ends) (now cursors) firstBin × Choice (now ends) (now weights) mask threshold total ⌝ }
     ensures { λ r. ⌜ verdictIs r ≡ checkFrom (length (now (certificate .entry))) (chosenRuns (now (numbers .entry)) (now (ends .entry)) (now (weights .entry)) mask) threshold firstBin 0 (now (certificate .entry)) ⌝ }
 {
     let mut bin: u64 = limits::FIRST_BIN as u64;
@@ -80,7 +80,7 @@ fn check_parts(
             weights,
             mask,
             threshold,
-            few,
+            total,
             cursors,
             bin,
             part,
@@ -109,11 +109,11 @@ fn check_all(
     weights: &[u32],
     mask: u64,
     threshold: usize,
-    few: usize,
+    total: usize,
     cursors: &mut [u64],
     certificate: &[u8],
 ) -> Verdict
-    requires { ⌜ Begins (now numbers) (now ends) (now cursors) × Choice (now ends) (now weights) mask threshold few ⌝ }
+    requires { ⌜ Begins (now numbers) (now ends) (now cursors) × Choice (now ends) (now weights) mask threshold total ⌝ }
     ensures { λ r. ⌜ verdictIs r ≡ checkFrom (length (now (certificate .entry))) (chosenRuns (now (numbers .entry)) (now (ends .entry)) (now (weights .entry)) mask) threshold firstBin 0 (now (certificate .entry)) ⌝ }
 {
     check_cursor::begin(numbers, ends, cursors);
@@ -123,14 +123,13 @@ fn check_all(
         weights,
         mask,
         threshold,
-        few,
+        total,
         cursors,
         certificate,
     )
 }
 
-// The check of lists, weights, a mask and a threshold that pass the first checks. The runs that a gap names must weigh `few`, so that those that it leaves out
-// weigh less than the threshold.
+// The check of lists, weights, a mask and a threshold that pass the first checks. What the chosen runs weigh is found once.
 fn check_passed(
     numbers: &[u32],
     ends: &[u32],
@@ -145,15 +144,14 @@ fn check_passed(
     let mut cursors = [0u64; limits::MOST_RUNS];
     let k = ends.len();
     let t = arith::usize_of_u32(threshold);
-    let total = weights::weight_of(mask, weights);
-    let few = total - t + 1;
+    let whole = weights::weight_of(mask, weights);
     check_all(
         numbers,
         ends,
         weights,
         mask,
         t,
-        few,
+        whole,
         &mut cursors[0..k],
         certificate,
     )

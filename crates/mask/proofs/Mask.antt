@@ -1,7 +1,7 @@
--- A run's own mask, the bits of two masks together, a mask with a run's bit set (its other bits stay, and where the bit was 0 the mask grows by 2 to the power
--- of the run), and a run's bit tested. Stated over the run and the width. Assumes nothing.
-use Prim.Native.Nat.{ℕ, suc, _+_, _-_, _*_, _/_, _%_, _^_, _≤_, _<_, min, max}
-use lib.Bits.{bitAnd, bitOr, and-step, and-shr, or-step, or-shr, or-disjoint, and-block, and-mask, and-zero-r}
+-- A run's own mask, the bits of two masks together, those of a mask that another has not, a mask with a run's bit set (its other bits stay, and where the bit
+-- was 0 the mask grows by 2 to the power of the run), and a run's bit tested. Stated over the run and the width. Assumes nothing.
+use Prim.Native.Nat.{ℕ, zero, suc, _+_, _-_, _*_, _/_, _%_, _^_, _≤_, _<_, min, max}
+use lib.Bits.{bitAnd, bitOr, bitXor, differ, and-step, and-shr, or-step, or-shr, xor-step, xor-shr, or-disjoint, and-block, and-mask, and-zero-r}
 use lib.Pow.{pow-pos, pow-lt, pow-add, shl-shr, split}
 use lib.Dec.{eqb}
 use borrow.Author.Tests.{eqb-true, eq-eqb}
@@ -26,6 +26,20 @@ bit-above m i h = bit-of m i ∙ rw (div-eq-of-lt h)
 bit-or : (m n i : ℕ) → bit (bitOr m n) i ≡ max (bit m i) (bit n i)
 unfolding bit
 bit-or m n i = let e = or-step (m / 2 ^ i) (n / 2 ^ i) in rw (or-shr m n i) (omega arith)
+
+-- a run of a mask is in another, whose runs are all in the first, or in what the two do not have in common
+differ-less : (x y : ℕ) → y ≤ x → differ x y + y ≡ x
+differ-less zero y h = omega arith
+differ-less (suc x) zero h = omega arith
+differ-less (suc x) (suc y) h = let e = differ-less x y (omega arith) in omega arith
+
+pub bit-others : (a m i : ℕ) → bitAnd m a ≡ m → bit (bitXor a m) i + bit m i ≡ bit a i
+unfolding bit
+bit-others a m i h =
+    let b = sym (bit-and m a i) ∙ ap (λ x. bit x i) h in
+    let d = differ-less (a / 2 ^ i % 2) (m / 2 ^ i % 2) (omega arith) in
+    let e = xor-step (a / 2 ^ i) (m / 2 ^ i) in
+    rw (xor-shr a m i) (omega arith)
 
 bit-other : (i j : ℕ) → i ≢ j → bit (2 ^ j) i ≡ 0
 bit-other i j h =

@@ -1,7 +1,11 @@
--- The lowest and the highest run of a mask. Definitions only.
+-- The runs that a mask leaves out, and its lowest and its highest run. Definitions only.
 use Prim.Native.Nat.{ℕ, _+_, _^_, _<_}
 use mathlib.Core.Path.{_≡_}
 use Rattle.model.specs.Runs.{bit, maskBits}
+
+-- r names what a names and m does not, each run of m being one of a
+pub record Others (a m r : ℕ) : Type 0 where
+  pub each : (i : ℕ) → bit r i + bit m i ≡ bit a i
 
 -- r is the lowest run that m names
 pub record Lowest (m r : ℕ) : Type 0 where

@@ -5,7 +5,7 @@ ghost use lib.Bits.{bitAnd};
 ghost use lib.Count.{ones};
 ghost use lib.Dec.{eqb};
 ghost use Rattle.model.specs.Runs.{bit, maskBits};
-ghost use Rattle.mask.specs.Mask.{Lowest, LowestGone, Highest};
+ghost use Rattle.mask.specs.Mask.{Others, Lowest, LowestGone, Highest};
 
 // How many runs a mask can speak of.
 const MASK_BITS: u32 = 64;
@@ -42,6 +42,14 @@ pub fn names_only(mask: u64, chosen: u64) -> bool
     ensures { λ r. ⌜ r ≡ eqb (bitAnd mask chosen) mask ⌝ }
 {
     mask & chosen == mask
+}
+
+// The mask that names the runs that `all` names and `mask` does not. The mask names only runs that `all` names.
+pub fn others(all: u64, mask: u64) -> u64
+    requires { ⌜ bitAnd mask all ≡ mask ⌝ }
+    ensures { λ r. ⌜ Others all mask r ⌝ }
+{
+    all ^ mask
 }
 
 // How many runs the mask names.

@@ -1,6 +1,7 @@
--- What the runs that a mask names weigh, and what all runs do: run by run, and as the model has it. Assumes nothing.
+-- What the runs that a mask names weigh, and what all runs do: run by run, by those that it leaves out, and as the model has it. Assumes nothing.
 use Prim.Native.Nat.{ℕ, zero, suc, _+_, _*_, _/_, _%_, _^_, _≤_, _<_}
 use borrow.Author.Tests.{eq-eqb, ne-eqb}
+use lib.Bits.{bitAnd}
 use lib.Count.{ones, ones-step}
 use lib.Dec.{eqb}
 use lib.ListN.{length, getD, take}
@@ -10,15 +11,16 @@ use mathlib.Core.Bool.{true, false}
 use mathlib.Core.List.{List, [], _∷_, _++_}
 use mathlib.Core.Logic.{⊎-elim, _≢_}
 use mathlib.Core.Path.{_≡_, refl, sym, ap, _∙_}
-use native.Mathlib.Nat.{zero-mul, one-mul, zero-div, div-one, div-eq-of-lt, mul-le-mul}
+use native.Mathlib.Nat.{zero-mul, one-mul, add-mul, zero-div, div-one, div-eq-of-lt, mul-le-mul}
 use native.Mathlib.Omega.{arith}
 use Rattle.mask.proofs.Lowest.{cleared-here, cleared-other}
 use Rattle.mask.proofs.Mask.{bit-above}
-use Rattle.model.proofs.Masks.{Labelled, labelled-nil, labelled-cons, label-first, label-rest, bit-of, bit-small, below-only}
+use Rattle.mask.specs.Mask.{Others}
+use Rattle.model.proofs.Masks.{Labelled, labelled-nil, labelled-cons, label-first, label-rest, bit-of, bit-small, and-bit, below-only, only-below}
 use Rattle.model.proofs.Tests.{lt-or-le, eq-or-ne}
 use Rattle.model.specs.Refusals.{sumOfWeights}
 use Rattle.model.specs.Runs.{Run, weightedRun, weighted, total, one, weightOf, bit, names, maskBits}
-use Rattle.weights.specs.Named.{weightFrom, namedWeight}
+use Rattle.weights.specs.Named.{weightFrom, namedWeight, Weighs}
 
 -- ---- the sum of a row
 
@@ -120,6 +122,38 @@ most-from ws m a (suc n) h =
 pub most-named : (ws : List ℕ) (m : ℕ) → ((i : ℕ) → getD ws i 1 < 4294967296) → namedWeight ws m ≤ 274877906944
 unfolding namedWeight
 most-named ws m h = let s = most-from ws m 0 maskBits h in omega arith
+
+-- ---- a mask that names only runs of another
+
+-- it names no run from k on, if the other names none
+pub only-of : (m c k : ℕ) → c < 2 ^ k → bitAnd m c ≡ m → m < 2 ^ k
+only-of m c k w e = only-below m k (λ i q. below-only c k i w (and-bit m c i e q))
+
+-- and each run that it names has a weight, if each of the other has
+pub only-weigh : (m c : ℕ) (weights : List ℕ) → bitAnd m c ≡ m → Weighs c weights → Weighs m weights
+only-weigh m c weights e w = record { few = w .few; within = λ h. only-of m c (length weights) (w .within h) e }
+
+-- The runs that it names and those that it leaves out are together those of the other, and so is what they weigh.
+module _ (c m r : ℕ) (o : Others c m r) where
+  pub others-within : (k : ℕ) → c < 2 ^ k → r < 2 ^ k
+  others-within k w =
+      only-below r k
+      (λ i q.
+      let e = o .each i in
+      let s = bit-small c i in
+      below-only c k i w (omega arith))
+
+  others-from : (ws : List ℕ) (a n : ℕ) → weightFrom ws r a n + weightFrom ws m a n ≡ weightFrom ws c a n
+  unfolding weightFrom
+  others-from ws a zero = refl
+  others-from ws a (suc n) =
+      let e = sym (add-mul (bit r a) (bit m a) (getD ws a 1)) ∙ ap (λ x. x * getD ws a 1) (o .each a) in
+      let s = others-from ws (suc a) n in
+      omega arith
+
+  pub others-weight : (ws : List ℕ) → namedWeight ws r + namedWeight ws m ≡ namedWeight ws c
+  unfolding namedWeight
+  others-weight ws = others-from ws 0 maskBits
 
 -- ---- as the model has it
 

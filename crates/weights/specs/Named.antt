@@ -1,6 +1,8 @@
 -- What the runs that a mask names weigh, by a row of weights. Definitions only.
 use Prim.Native.Nat.{ℕ, zero, suc, _+_, _*_, _^_, _≤_, _<_}
 use mathlib.Core.List.{List}
+use mathlib.Core.Path.{_≡_}
+use lib.Bits.{bitAnd}
 use lib.ListN.{length, getD}
 use Rattle.model.specs.Runs.{bit, maskBits, mostRuns}
 
@@ -16,3 +18,9 @@ namedWeight weights m = weightFrom weights m 0 maskBits
 pub record Weighs (m : ℕ) (weights : List ℕ) : Type 0 where
   pub few : length weights ≤ mostRuns
   pub within : 0 < length weights → m < 2 ^ length weights
+
+-- a mask that names only runs of another, each of which has a weight where the row has any, and what the runs of the other weigh
+pub record Among (m all total : ℕ) (weights : List ℕ) : Type 0 where
+  pub only : bitAnd m all ≡ m
+  pub row : Weighs all weights
+  pub whole : total ≡ namedWeight weights all

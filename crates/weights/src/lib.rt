@@ -4,7 +4,10 @@ ghost use Prim.Native.Nat.{_^_, _≤_, _<_};
 ghost use lib.ListN.{length};
 ghost use Rattle.model.specs.Refusals.{sumOfWeights};
 ghost use Rattle.model.specs.Runs.{mostRuns};
-ghost use Rattle.weights.specs.Named.{namedWeight, Weighs};
+ghost use Rattle.weights.specs.Named.{namedWeight, Weighs, Among};
+
+// Half of the most runs. Of the runs that a part names and the others, the fewer are never more.
+const HALF: u32 = 32;
 
 // What all runs weigh.
 pub fn sum(weights: &[u32]) -> usize
@@ -45,4 +48,18 @@ pub fn weight_of(mask: u64, weights: &[u32]) -> usize
         return arith::usize_of_u32(mask::ones_of(mask));
     }
     named_weight(mask, weights)
+}
+
+// The same of a mask that names only runs of `all`, which weigh `total`. Where it names more than half of the most runs, what the others weigh is taken off the
+// total, so that at most 32 weights are read for a mask.
+pub fn weight_among(mask: u64, all: u64, total: usize, weights: &[u32]) -> usize
+    requires { ⌜ Among mask all total (now weights) ⌝ }
+    ensures { λ r. ⌜ r ≡ namedWeight (now (weights .entry)) mask ⌝ }
+{
+    if 0 < weights.len() {
+        if HALF < mask::ones_of(mask) {
+            return total - named_weight(mask::others(all, mask), weights);
+        }
+    }
+    weight_of(mask, weights)
 }

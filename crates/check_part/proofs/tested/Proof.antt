@@ -23,7 +23,7 @@ returns-2 c =
     other-last (a .numbers .now) (a .ends .now) (a .weights .now) (a .chosen) (a .bin) (a .held) (a .first) (a .last) (a .mask) (a .few) _ (s .pre .1) (c .before .if1 .left) (c .if2 .taken)
 
 misnames-requires : tie.Need-misnames-requires
-misnames-requires c κs = start-of (c .before) .pre .3
+misnames-requires c κs = let p = start-of (c .before) .pre in (p .3, p .4)
 
 returns-3 : tie.Need-returns-3
 returns-3 c =

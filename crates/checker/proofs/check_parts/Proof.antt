@@ -12,11 +12,11 @@ use Rattle.checker.proofs.check_parts.Statement.{statement}
 use Rattle.checker.proofs.check_parts.Tie as tie
 
 abbrev Inv-loop : tie.InvT-loop
-Inv-loop numbers ends weights mask threshold few cursors₀ certificate bin₀ at₀ answers₀ parts₀ cursors bin at answers parts =
-    Along numbers ends weights mask threshold certificate cursors bin at answers parts × (length cursors₀ ≡ length ends) × Choice ends weights mask threshold few
+Inv-loop numbers ends weights mask threshold total cursors₀ certificate bin₀ at₀ answers₀ parts₀ cursors bin at answers parts =
+    Along numbers ends weights mask threshold certificate cursors bin at answers parts × (length cursors₀ ≡ length ends) × Choice ends weights mask threshold total
 
 abbrev μ-loop : tie.MeasureT-loop
-μ-loop numbers ends weights mask threshold few cursors₀ certificate bin₀ at₀ answers₀ parts₀ cursors bin at answers parts =
+μ-loop numbers ends weights mask threshold total cursors₀ certificate bin₀ at₀ answers₀ parts₀ cursors bin at answers parts =
     length certificate - at
 
 cast-bin : tie.Need-cast-bin Inv-loop μ-loop

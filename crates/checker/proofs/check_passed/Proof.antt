@@ -1,7 +1,6 @@
--- `check_passed` places the cursors in their room and finds once how much a gap's runs must weigh. Assumes nothing.
+-- `check_passed` places the cursors in their room and finds once what the chosen runs weigh. Assumes nothing.
 use lib.ListN.{length}
 use mathlib.Core.Path.{ap, _∙_}
-use native.Mathlib.Omega.{arith}
 use Rattle.check_part.specs.Tested.{chosenRuns}
 use Rattle.model.proofs.FirstChecks.{fits, lists-passed}
 use Rattle.model.specs.Demands.{Fits}
@@ -25,18 +24,6 @@ lent-of c = c .before .before .before .before .before
 
 fits-bins : (c : tie.After-shared-slice-known) → Fits pastBin (c .before .args .numbers .now)
 fits-bins c = fits pastBin (c .before .args .numbers .now) (λ i. bin-fits _ (c .shared-slice-known .given i .fits))
-
-sub-few : tie.Need-sub-few
-sub-few c =
-    let m = lent-of c .before .pre .met in
-    omega (arith, m, c .weight-of .ensures, c .before .usize-of-u32 .ensures)
-
-add-few : tie.Need-add-few
-add-few c =
-    let s = lent-of c .before .pre in
-    let h = s .some in
-    let m = s .met in
-    record { fits = omega (arith, c .weight-of .ensures, c .before .usize-of-u32 .ensures) }
 
 sub-check-all : tie.Need-sub-check-all
 sub-check-all c = search needs
@@ -72,8 +59,6 @@ check-passed-spec =
     (tie.spec
     usize-of-u32-requires
     weight-of-requires
-    sub-few
-    add-few
     sub-check-all
     part-cursors-start
     part-cursors-end
