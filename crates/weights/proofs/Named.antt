@@ -20,7 +20,7 @@ use Rattle.model.proofs.Masks.{Labelled, labelled-nil, labelled-cons, label-fir
 use Rattle.model.proofs.Tests.{lt-or-le, eq-or-ne}
 use Rattle.model.specs.Refusals.{sumOfWeights}
 use Rattle.model.specs.Runs.{Run, weightedRun, weighted, total, one, weightOf, bit, names, maskBits}
-use Rattle.weights.specs.Named.{weightFrom, namedWeight, Weighs}
+use Rattle.weights.specs.Named.{weightFrom, namedWeight, Fewer}
 
 -- ---- the sum of a row
 
@@ -129,13 +129,9 @@ most-named ws m h = let s = most-from ws m 0 maskBits h in omega arith
 pub only-of : (m c k : ℕ) → c < 2 ^ k → bitAnd m c ≡ m → m < 2 ^ k
 only-of m c k w e = only-below m k (λ i q. below-only c k i w (and-bit m c i e q))
 
--- and each run that it names has a weight, if each of the other has
-pub only-weigh : (m c : ℕ) (weights : List ℕ) → bitAnd m c ≡ m → Weighs c weights → Weighs m weights
-only-weigh m c weights e w = record { few = w .few; within = λ h. only-of m c (length weights) (w .within h) e }
-
 -- The runs that it names and those that it leaves out are together those of the other, and so is what they weigh.
 module _ (c m r : ℕ) (o : Others c m r) where
-  pub others-within : (k : ℕ) → c < 2 ^ k → r < 2 ^ k
+  others-within : (k : ℕ) → c < 2 ^ k → r < 2 ^ k
   others-within k w =
       only-below r k
       (λ i q.
@@ -151,9 +147,25 @@ module _ (c m r : ℕ) (o : Others c m r) where
       let s = others-from ws (suc a) n in
       omega arith
 
-  pub others-weight : (ws : List ℕ) → namedWeight ws r + namedWeight ws m ≡ namedWeight ws c
+  others-weight : (ws : List ℕ) → namedWeight ws r + namedWeight ws m ≡ namedWeight ws c
   unfolding namedWeight
   others-weight ws = others-from ws 0 maskBits
+
+-- the same of the mask or what it leaves out
+module _ (c m r : ℕ) (f : Fewer m c r) where
+  pub fewer-within : (k : ℕ) → bitAnd m c ≡ m → c < 2 ^ k → r < 2 ^ k
+  fewer-within k e w =
+      ⊎-elim
+      (λ (q : r ≡ m). rw q (only-of m c k w e))
+      (λ (o : Others c m r). others-within c m r o k w)
+      (f .either)
+
+  pub fewer-weight : (ws : List ℕ) → r ≢ m → namedWeight ws r + namedWeight ws m ≡ namedWeight ws c
+  fewer-weight ws n =
+      ⊎-elim
+      (λ (q : r ≡ m). absurd (n q))
+      (λ (o : Others c m r). others-weight c m r o ws)
+      (f .either)
 
 -- ---- as the model has it
 

@@ -1,9 +1,11 @@
 -- What the runs that a mask names weigh, by a row of weights. Definitions only.
 use Prim.Native.Nat.{ℕ, zero, suc, _+_, _*_, _^_, _≤_, _<_}
 use mathlib.Core.List.{List}
+use mathlib.Core.Logic.{_⊎_}
 use mathlib.Core.Path.{_≡_}
 use lib.Bits.{bitAnd}
 use lib.ListN.{length, getD}
+use Rattle.mask.specs.Mask.{Others}
 use Rattle.model.specs.Runs.{bit, maskBits, mostRuns}
 
 -- a sum over the n runs from i on: the weight of each that the mask names, 1 where the row has none
@@ -24,3 +26,7 @@ pub record Among (m all total : ℕ) (weights : List ℕ) : Type 0 where
   pub only : bitAnd m all ≡ m
   pub row : Weighs all weights
   pub whole : total ≡ namedWeight weights all
+
+-- the mask m, or what it leaves out of another
+pub record Fewer (m all r : ℕ) : Type 0 where
+  pub either : (r ≡ m) ⊎ Others all m r

@@ -1,10 +1,11 @@
 // What runs weigh, by a row with a weight for each run. A row with none stands for runs that weigh 1 each.
 ghost use mathlib.Core.Path.{_≡_};
 ghost use Prim.Native.Nat.{_^_, _≤_, _<_};
+ghost use lib.Bits.{bitAnd};
 ghost use lib.ListN.{length};
 ghost use Rattle.model.specs.Refusals.{sumOfWeights};
 ghost use Rattle.model.specs.Runs.{mostRuns};
-ghost use Rattle.weights.specs.Named.{namedWeight, Weighs, Among};
+ghost use Rattle.weights.specs.Named.{namedWeight, Weighs, Among, Fewer};
 
 // Half of the most runs. Of the runs that a part names and the others, the fewer are never more.
 const HALF: u32 = 32;
@@ -50,16 +51,30 @@ pub fn weight_of(mask: u64, weights: &[u32]) -> usize
     named_weight(mask, weights)
 }
 
-// The same of a mask that names only runs of `all`, which weigh `total`. Where it names more than half of the most runs, what the others weigh is taken off the
-// total, so that at most 32 weights are read for a mask.
+// The mask, or where it names more than half of the most runs the mask of the others of `all`.
+fn fewer(mask: u64, all: u64) -> u64
+    requires { ⌜ bitAnd mask all ≡ mask ⌝ }
+    ensures { λ r. ⌜ Fewer mask all r ⌝ }
+{
+    if HALF < mask::ones_of(mask) {
+        return mask::others(all, mask);
+    }
+    mask
+}
+
+// What the runs that a mask names weigh, which are runs of `all`, and those weigh `total`. Where they are more than half of the most runs, what the others weigh is
+// taken off the total, so that at most 32 weights are read.
 pub fn weight_among(mask: u64, all: u64, total: usize, weights: &[u32]) -> usize
     requires { ⌜ Among mask all total (now weights) ⌝ }
     ensures { λ r. ⌜ r ≡ namedWeight (now (weights .entry)) mask ⌝ }
 {
     if 0 < weights.len() {
-        if HALF < mask::ones_of(mask) {
-            return total - named_weight(mask::others(all, mask), weights);
+        let summed = fewer(mask, all);
+        let weight = named_weight(summed, weights);
+        if summed == mask {
+            return weight;
         }
+        return total - weight;
     }
     weight_of(mask, weights)
 }

@@ -1,54 +1,62 @@
--- `weight_among` takes what the other runs weigh off the total, or adds the weights of those that the mask names. Assumes nothing.
+-- `weight_among` adds the weights of the runs that the mask names, or takes those of the others off the total. Assumes nothing.
+use Prim.Native.Nat.{_+_}
 use borrow.Author.Needs.{needs}
 use lib.ListN.{length}
+use mathlib.Core.Path.{_≡_, ap, _∙_}
 use native.Mathlib.Omega.{arith}
-use Rattle.weights.proofs.Named.{only-weigh, others-within, others-weight}
+use Rattle.weights.specs.Named.{namedWeight}
+use Rattle.weights.proofs.Named.{fewer-within, fewer-weight}
 use Rattle.weights.proofs.weight_among.Statement.{statement}
 use Rattle.weights.proofs.weight_among.Tie as tie
 
-ones-of-requires : tie.Need-ones-of-requires
-ones-of-requires c κs = search needs
-
-others-requires : tie.Need-others-requires
-others-requires c κs = search needs
+fewer-requires : tie.Need-fewer-requires
+fewer-requires c κs = search needs
 
 named-weight-requires : tie.Need-named-weight-requires
 named-weight-requires c κs =
-    let i = c .before .before .before in
-    let s = i .before .before in
-    let w = s .pre .row in
-    (w .few, others-within (s .args .all) (s .args .mask) (c .others .result) (c .others .ensures) (length (s .args .weights .now)) (w .within (omega (arith, i .if1 .taken))))
-
-sub-result : tie.Need-sub-result
-sub-result c =
-    let o = c .before in
-    let s = o .before .before .before .before .before in
-    let e = others-weight (s .args .all) (s .args .mask) (o .others .result) (o .others .ensures) (s .args .weights .now) in
-    omega (arith, c .named-weight .ensures, s .pre .whole)
+    let s = c .before .before .before in
+    let p = s .pre in
+    let w = p .row in
+    (w .few, fewer-within (s .args .all) (s .args .mask) (c .fewer .result) (c .fewer .ensures) (length (s .args .weights .now)) (p .only) (w .within (omega (arith, c .before .if1 .taken))))
 
 returns : tie.Need-returns
 returns c =
-    let o = c .before in
-    let s = o .before .before .before .before .before in
-    let e = others-weight (s .args .all) (s .args .mask) (o .others .result) (o .others .ensures) (s .args .weights .now) in
-    omega (arith, c .named-weight .ensures, s .pre .whole)
+    let n = c .before in
+    let s = n .before .before .before .before in
+    n .named-weight .ensures ∙ ap (namedWeight (s .args .weights .now)) (c .if2 .taken)
 
-weight-of-requires : tie.Need-weight-of-requires
-weight-of-requires c κs =
-    let s = c .before .before in
-    only-weigh (s .args .mask) (s .args .all) (s .args .weights .now) (s .pre .only) (s .pre .row)
+-- what the others weigh and what the named ones do are together the total
+together : (c : tie.Else2)
+    → (let n = c .before in
+    let s = n .before .before .before .before in
+    n .named-weight .result + namedWeight (s .args .weights .now) (s .args .mask) ≡ s .args .total)
+together c =
+    let n = c .before in
+    let f = n .before in
+    let s = f .before .before .before in
+    let e = fewer-weight (s .args .all) (s .args .mask) (f .fewer .result) (f .fewer .ensures) (s .args .weights .now) (c .if2 .left) in
+    omega (arith, n .named-weight .ensures, s .pre .whole)
+
+sub-result : tie.Need-sub-result
+sub-result c = let e = together c in omega arith
 
 returns-2 : tie.Need-returns-2
-returns-2 c = search needs
+returns-2 c = let e = together c in omega arith
+
+weight-of-requires : tie.Need-weight-of-requires
+weight-of-requires c κs = record { few = c .before .before .pre .row .few; within = λ h. absurd (omega (arith, c .if1 .left)) }
+
+returns-3 : tie.Need-returns-3
+returns-3 c = search needs
 
 pub weight-among-spec : {M : Type 1} → statement M
 weight-among-spec =
     tie.close
     (tie.spec
-    ones-of-requires
-    others-requires
+    fewer-requires
     named-weight-requires
-    sub-result
     returns
+    sub-result
+    returns-2
     weight-of-requires
-    returns-2)
+    returns-3)
