@@ -440,7 +440,7 @@ void quorum_check_chosen(const uint32_t *numbers, size_t numbers_len,
  * both 0 on a refusal, as quorum_check. A certificate that begins at bin 0 is
  * refusal 9 at place 0 here too.
  *
- * Cost: as quorum_check, and one step more for each run that a part names.
+ * Cost: as quorum_check, and at most one step more for each run that a part names.
  *
  * Example, after those above: the certificate of the question with weights; then
  * the same for a wanted weight of 4, for which run 0 alone, named by the second part,

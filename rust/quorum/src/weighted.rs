@@ -117,8 +117,8 @@ pub fn query_weighted(
 /// # Cost
 ///
 /// As [`check()`](crate::check()), one pass over `numbers` for the first checks, then
-/// at most one more and parts × runs steps; and one step more for each run that a
-/// part names.
+/// at most one more and parts × runs steps; and at most one step more for each run
+/// that a part names.
 ///
 /// # Example
 ///
