@@ -337,8 +337,8 @@ pub record Unmapped : Type 0 where
   pub judged-alike : check (0 ∷ 0 ∷ 5 ∷ []) (3 ∷ []) 1 (encode (gap 1 4 1 ∷ answer 5 1 ∷ gap 6 4294967295 1 ∷ [])) ≡ valid 1 3
   pub refused-alike : check (0 ∷ 0 ∷ 5 ∷ []) (3 ∷ []) 1 (encode (gap 1 4294967295 1 ∷ [])) ≡ invalid 11 0 0 0
 
--- The runs of the listing, of which the first weighs 3 and the others 1, wanted 3: a certificate is judged by what runs weigh and not by how many they are. In a gap
--- the first run may be left out alone only where less is wanted, and an answer may name it alone.
+-- The runs of the listing, of which the first weighs 3 and the others 1: a certificate is judged by what runs weigh and not by how many they are. Where 3 is wanted
+-- an answer may name the first run alone, and a gap must name it; where 4 is wanted an answer may not, and a gap may name it alone.
 unfoldable pub judgedWeighted : ℕ → List Part → Verdict
 judgedWeighted wanted ps = checkWeighted listingNumbers listingEnds (3 ∷ 1 ∷ 1 ∷ []) wanted (encode ps)
 
