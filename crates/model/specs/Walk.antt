@@ -22,6 +22,10 @@ headOf (x ∷ s) = x
 unfoldable pub head : Run → ℕ
 head r = headOf (r .bins)
 
+-- The weight still in play: what the runs that have a head weigh.
+abbrev pub weightInPlay : List Run → ℕ
+weightInPlay rs = weightOf (λ r. ltb (head r) pastBin) rs
+
 -- The least head such that the runs whose heads do not exceed it weigh at least t. (Where every run weighs 1 this is the t-th smallest head, equal heads each
 -- counted.)
 unfoldable pub leastHead : (ℕ → Bool) → List Run → ℕ
@@ -121,12 +125,12 @@ settle next t v rs =
       | false ↦ next v rs
     ]
 
--- One round, with the rounds after it. Step 1: if the runs with a head weigh less than t, write a gap from the floor to 4294967295, naming the runs without
+-- One round, with the rounds after it. Step 1: if the weight still in play is less than t, write a gap from the floor to 4294967295, naming the runs without
 -- a head, and end. Step 2: otherwise let v be the least head such that the runs whose heads are at most v weigh enough. Step 3: if the floor is below v, write a
 -- gap from the floor to v − 1. It names every run whose head is at least v and every run without a head.
 unfoldable pub round : (ℕ → List Run → List Event) → ℕ → ℕ → List Run → List Event
 round next t floor rs =
-    elim (ltb (weightOf (λ r. ltb (head r) pastBin) rs) t) [
+    elim (ltb (weightInPlay rs) t) [
       | true ↦ wrote (gap floor lastBin (mask (λ r. leb pastBin (head r)) rs)) ∷ []
       | false ↦
           let v = enoughHead t rs in

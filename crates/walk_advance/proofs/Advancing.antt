@@ -34,7 +34,7 @@ use Rattle.walk_write.proofs.Rows.{front-mask, front-names}
 use Rattle.walk_state.specs.Moves.{SearchReady}
 use Rattle.walk_searches.specs.Searches.{Exhausted, SearchedRuns}
 use Rattle.walk_tally.specs.Tally.{leftIn, halvedIn, undoubled}
-use Rattle.walk_state.specs.State.{runsAt, chosenAt, Holds}
+use Rattle.walk_state.specs.State.{runsAt, chosenAt, Holds, InPlay}
 use Rattle.walk_searches.specs.declared.Moved.the-variants as moved
 use Rattle.walk_state.proofs.Choosing.{idle-equal, idle-searches, searched-keeps}
 use Rattle.walk_state.proofs.Going.{map-still, searched-still}
@@ -130,9 +130,12 @@ module _ (numbers ends ws positions keys A B : List ℕ) (m t v : ℕ) (w : Stat
     x-tally : x .tally ≡ w .tally
     x-tally = g .0 .tally
 
+    pub x-in-play : InPlay numbers ends ws positions (x .weight)
+    x-in-play = subst (λ z. InPlay numbers ends ws positions z) (sym (g .0 .weight)) (s .in-play)
+
     -- the state where no probe is left
     abbrev spentState : ℕ → State
-    spentState tally = record { floor = x .floor; start = x .start; answers = x .answers; parts = x .parts; bytes = x .bytes; tally = tally }
+    spentState tally = record { floor = x .floor; start = x .start; answers = x .answers; parts = x .parts; bytes = x .bytes; tally = tally; weight = x .weight }
 
     -- of the searches as many probes are made as are left
     cut-searches : (n tally : ℕ) → n ≡ leftIn (x .tally) → Exhausted (searches v rs) (x .tally) tally
@@ -145,7 +148,7 @@ module _ (numbers ends ws positions keys A B : List ℕ) (m t v : ℕ) (w : Stat
         let i = ap (λ y. halvingsWithin y (searches v rs)) e in
         (q, omega (arith, h .2), omega (arith, h .1, h .2))
 
-    pub searches-stop : (positions′ keys′ : List ℕ) (tally : ℕ) → SearchedRuns numbers ends rs v (x .tally) positions′ keys′ (moved.Spent tally)
+    pub searches-stop : (positions′ keys′ : List ℕ) (tally : ℕ) → SearchedRuns numbers ends ws rs v (x .tally) positions′ keys′ (moved.Spent tally)
         → Goes (λ k. round (walk k t) t (w .floor) cs) m numbers ends ws t w A B positions′ keys′ A B′ (Stopped 7 (spentState tally))
         × Raises (w .floor) (Stopped 7 (spentState tally))
     unfolding goesOn endsWith countsOf withProbes probesSo
@@ -166,10 +169,10 @@ module _ (numbers ends ws positions keys A B : List ℕ) (m t v : ℕ) (w : Stat
         )
 
     -- the state after the searches
-    abbrev searchedState : ℕ → ℕ → State
-    searchedState start tally = record { floor = v; start = start; answers = x .answers; parts = x .parts; bytes = x .bytes; tally = tally }
+    abbrev searchedState : ℕ → ℕ → ℕ → State
+    searchedState start tally weight = record { floor = v; start = start; answers = x .answers; parts = x .parts; bytes = x .bytes; tally = tally; weight = weight }
 
-    module _ (positions′ keys′ : List ℕ) (start tally : ℕ) (h : SearchedRuns numbers ends rs v (x .tally) positions′ keys′ (moved.On start tally)) where
+    module _ (positions′ keys′ : List ℕ) (start tally weight : ℕ) (h : SearchedRuns numbers ends ws rs v (x .tally) positions′ keys′ (moved.On start tally weight)) where
       -- halving probes are probes
       still-allowed : undoubled tally ≤ undoubled (w .tally)
       still-allowed = let b = both-kinds (searches v rs) in let e = ap undoubled x-tally in omega (arith, h .0 .0, h .0 .1)
@@ -183,20 +186,20 @@ module _ (numbers ends ws positions keys A B : List ℕ) (m t v : ℕ) (w : Stat
       chooses-there : Chooses m numbers ends ws positions′ t
       chooses-there = chooses-moved numbers ends ws positions m t c (searched v) (searched-keeps v) positions′ runs-now
 
-      pub stands-there : Stands numbers ends ws positions′ keys′ t (searchedState start tally) × Fitted A B′ (searchedState start tally)
+      pub stands-there : Stands numbers ends ws positions′ keys′ t (searchedState start tally weight) × Fitted A B′ (searchedState start tally weight)
       stands-there =
           let b = adv .bin in
           let k = g .0 in
           let a = k .answers in
           let f = fits .answered in (
             record {
-              row = s .row;
               few = s .few;
               some = s .some;
               holds = subst (λ y. Holds numbers ends positions′ keys′ start y) (sym runs-now) (h .1);
               rising = λ r i.
                   let p = map-mem (searched v) rs r (subst (λ y. List·Memᴰ r y) runs-now i) in
                   subst (λ (y : Run). Rise v (y .bins)) (sym (p .2)) (searched-rises v (p .0) (s .rising (p .0) (p .1)) (omega arith));
+              in-play = h .2;
               bin = b;
               allowed = let l = still-allowed in let o = s .allowed in omega arith;
             },
@@ -204,7 +207,7 @@ module _ (numbers ends ws positions keys A B : List ℕ) (m t v : ℕ) (w : Stat
           )
 
       to-settle : (allowance k : ℕ) → undoubled (w .tally) ≤ allowance → goesOn allowance w A B (round (walk k t) t (w .floor) cs)
-          ≡ goesOn allowance (searchedState start tally) A B′ (settle (walk k t) t v (chosenAt ws m numbers positions′ ends))
+          ≡ goesOn allowance (searchedState start tally weight) A B′ (settle (walk k t) t v (chosenAt ws m numbers positions′ ends))
       unfolding goesOn countsOf withProbes probesSo
       to-settle allowance k o =
           let e = ap undoubled x-tally in
@@ -250,7 +253,7 @@ module _ (numbers ends ws positions keys A B : List ℕ) (m t v : ℕ) (w : Stat
           at-least o r i = let p = heads-chosen r i in omega arith
 
       settled : (positions″ keys″ A″ B″ : List ℕ) (r : Turn)
-          → Goes (λ k. settle (walk k t) t v (chosenAt ws m numbers positions′ ends)) m numbers ends ws t (searchedState start tally) A B′ positions″ keys″ A″ B″ r
+          → Goes (λ k. settle (walk k t) t v (chosenAt ws m numbers positions′ ends)) m numbers ends ws t (searchedState start tally weight) A B′ positions″ keys″ A″ B″ r
           → Settles (weighted ws (runsAt 0 numbers positions′ ends)) t v r
           → Goes (λ k. round (walk k t) t (w .floor) cs) m numbers ends ws t w A B positions″ keys″ A″ B″ r × Raises (w .floor) r
       settled positions″ keys″ A″ B″ (On y) p u =
@@ -276,7 +279,7 @@ module _ (numbers ends ws positions keys A B : List ℕ) (m t v : ℕ) (w : Stat
 
       pub then-settles : (positions″ keys″ A″ B″ : List ℕ) (r : Turn)
           → ((i : ℕ) → Chooses i numbers ends ws positions′ t
-          → Goes (λ k. settle (walk k t) t v (chosenAt ws i numbers positions′ ends)) i numbers ends ws t (searchedState start tally) A B′ positions″ keys″ A″ B″ r)
+          → Goes (λ k. settle (walk k t) t v (chosenAt ws i numbers positions′ ends)) i numbers ends ws t (searchedState start tally weight) A B′ positions″ keys″ A″ B″ r)
           × Settles (weighted ws (runsAt 0 numbers positions′ ends)) t v r
           → Goes (λ k. round (walk k t) t (w .floor) cs) m numbers ends ws t w A B positions″ keys″ A″ B″ r × Raises (w .floor) r
       then-settles positions″ keys″ A″ B″ r p = settled positions″ keys″ A″ B″ r (p .0 m chooses-there) (p .1)

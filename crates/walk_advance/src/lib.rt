@@ -36,12 +36,14 @@ pub fn advance(
     match walk_searches::search_runs(
         numbers,
         ends,
+        weights,
         positions,
         keys,
         w.start + front.count,
         named,
         v,
         x.tally,
+        x.weight,
         front.count,
     ) {
         Moved::Spent(tally) => Turn::Stopped(
@@ -53,9 +55,14 @@ pub fn advance(
                 parts: x.parts,
                 bytes: x.bytes,
                 tally: tally,
+                weight: x.weight,
             },
         ),
-        Moved::On { start, tally } => walk_settle::settle(
+        Moved::On {
+            start,
+            tally,
+            weight,
+        } => walk_settle::settle(
             numbers,
             ends,
             weights,
@@ -71,6 +78,7 @@ pub fn advance(
                 parts: x.parts,
                 bytes: x.bytes,
                 tally: tally,
+                weight: weight,
             },
         ),
     }

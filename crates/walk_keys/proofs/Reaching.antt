@@ -3,7 +3,7 @@
 use Prim.Native.Nat.{ℕ, zero, suc, _+_, _-_, _*_, _/_, _%_, _≤_, _<_}
 use borrow.Author.Tests.{le-leb, lt-leb}
 use lib.Dec.{leb}
-use lib.ListN.{length, getD, drop, drop-of-length-le}
+use lib.ListN.{length, getD, drop}
 use lib.Seq.{drop-cons}
 use mathlib.Core.Bool.{true, false}
 use mathlib.Core.List.{List, [], _∷_, List·Memᴰ, List·Memᴰ·head, List·Memᴰ·tail}
@@ -17,7 +17,7 @@ use Rattle.model.specs.Runs.{pastBin, one}
 use Rattle.model.proofs.Ordered.{ordered-head, ordered-tail}
 use Rattle.model.proofs.Tests.{lt-or-le, one-most}
 use Rattle.walk_keys.specs.Row.{nthHead, keyWeight, reachedHead, sumOf}
-use Rattle.walk_keys.proofs.Row.{member-at}
+use Rattle.walk_keys.proofs.Row.{sum-one, member-at}
 
 -- ---- a key at a time
 
@@ -40,9 +40,6 @@ module _ (ws : List ℕ) where
   pub reached-on : (t : ℕ) (k : List ℕ) (i : ℕ) → i < length k → keyWeight ws (getD k i 0) < t
       → reachedHead ws t (drop i k) ≡ reachedHead ws (t - keyWeight ws (getD k i 0)) (drop (i + 1) k)
   reached-on t k i l h = rw (drop-cons k i 0 l, add-one i) (reached-further t (getD k i 0) (drop (suc i) k) h)
-
-  pub reached-end : (t : ℕ) (k : List ℕ) (i : ℕ) → length k ≤ i → reachedHead ws t (drop i k) ≡ pastBin
-  reached-end t k i l = rw (drop-of-length-le k l) (reached-nil t)
 
   -- what the keys whose heads are not above h weigh
   unfoldable pub rowWeight : ℕ → List ℕ → ℕ
@@ -149,6 +146,11 @@ one-each : (k : ℕ) → keyWeight [] k ≡ 1
 unfolding keyWeight
 one-each k = refl
 
+-- then the runs of a row weigh as much as the row has keys
+pub row-counted : (s : List ℕ) → sumOf (keyWeight []) s ≡ length s
+unfolding keyWeight
+row-counted s = sum-one s
+
 pub reached-nth : (t : ℕ) (s : List ℕ) → 0 < t → t ≤ length s → reachedHead [] t s ≡ nthHead t s
 unfolding nthHead
 reached-nth t [] p l = absurd (omega arith)
@@ -168,10 +170,3 @@ reached-nth (suc (suc t)) (k ∷ s) p l =
 pub nth-key : (t : ℕ) (s : List ℕ) (v : ℕ) → 0 < t → t ≤ length s → v ≡ nthHead t s → (k : ℕ) × List·Memᴰ k s × (v ≡ k / 256)
 unfolding nthHead
 nth-key t s v p l e = (getD s (t - 1) 0, member-at s (t - 1) (omega arith), e)
-
-pub reached-past : (t : ℕ) (s : List ℕ) → length s < t → reachedHead [] t s ≡ pastBin
-reached-past t [] l = reached-nil [] t
-reached-past t (k ∷ s) l =
-    let e = one-each k in
-    let q : keyWeight [] k < t = omega arith in
-    reached-further [] t k s q ∙ (ap (λ n. reachedHead [] n s) (omega arith) ∙ reached-past (t - 1) s (omega arith))

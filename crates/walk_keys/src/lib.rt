@@ -2,8 +2,8 @@
 ghost use mathlib.Core.Path.{_≡_};
 ghost use Prim.Native.Nat.{_+_, _*_, _^_, _≤_, _<_};
 ghost use lib.ListN.{length, take, drop};
-ghost use Rattle.walk_keys.specs.Row.{belowCount, labelSum, Labels, nthHead, Reaches, HaveWeights};
-ghost use Rattle.model.specs.Runs.{maskBits};
+ghost use Rattle.walk_keys.specs.Row.{belowCount, sumOf, labelSum, Labels, nthHead, keyWeight, Reaches, HaveWeights};
+ghost use Rattle.model.specs.Runs.{maskBits, mostRuns};
 
 // A number above every key.
 pub const NO_KEY: u64 = limits::PAST_BIN * 256;
@@ -12,12 +12,6 @@ pub const NO_KEY: u64 = limits::PAST_BIN * 256;
 pub struct Below {
     pub count: usize,
     pub named: u64,
-}
-
-// The head up to which runs weigh enough, or that all of them weigh less.
-pub enum Reached {
-    Head(u64),
-    Past,
 }
 
 // The key of a run with this head.
@@ -35,37 +29,50 @@ fn nth_head(keys: &[u64], start: usize, t: usize) -> u64
     keys[start + (t - 1)] >> 8
 }
 
-// The head of the first key up to which the runs weigh at least `t`, by a row with a weight for each.
-fn weighted_head(keys: &[u64], start: usize, weights: &[u32], t: usize) -> Reached
-    requires { ⌜ (start ≤ length (now keys)) × (0 < length (now weights)) × HaveWeights (now weights) (drop start (now keys)) ⌝ }
+// What the runs of the row weigh.
+pub fn row_weight(keys: &[u64], start: usize, weights: &[u32]) -> usize
+    requires { ⌜ (start ≤ length (now keys)) × (length (now keys) ≤ mostRuns) × HaveWeights (now weights) (drop start (now keys)) ⌝ }
+    ensures { λ r. ⌜ r ≡ sumOf (keyWeight (now (weights .entry))) (drop start (now (keys .entry))) ⌝ }
+{
+    if weights.len() == 0 {
+        return keys.len() - start;
+    }
+    let mut total: usize = 0;
+    let mut i = start;
+    while i < keys.len() {
+        total += arith::usize_of_u32(weights[(keys[i] & 255) as usize]);
+        i += 1;
+    }
+    total
+}
+
+// The head of the first key up to which the runs weigh at least `t`, by a row with a weight for each. All runs of the row weigh enough, so its end is not met.
+fn weighted_head(keys: &[u64], start: usize, weights: &[u32], t: usize) -> u64
+    requires { ⌜ (0 < t) × (start ≤ length (now keys)) × (0 < length (now weights)) × HaveWeights (now weights) (drop start (now keys)) × (t ≤ sumOf (keyWeight (now weights)) (drop start (now keys))) ⌝ }
     ensures { λ r. ⌜ Reaches (now (weights .entry)) t (drop start (now (keys .entry))) r ⌝ }
 {
     let mut missing = t;
     let mut i = start;
-    while i < keys.len() {
+    loop {
         let key = keys[i];
         let weight = arith::usize_of_u32(weights[(key & 255) as usize]);
         if missing <= weight {
-            return Reached::Head(key >> 8);
+            return key >> 8;
         }
         missing -= weight;
         i += 1;
     }
-    Reached::Past
 }
 
 // The same where a row without weights stands for runs that weigh 1 each: then it is the t-th key, and the row need not be gone through.
-pub fn reached_head(keys: &[u64], start: usize, weights: &[u32], t: usize) -> Reached
-    requires { ⌜ (0 < t) × (start ≤ length (now keys)) × HaveWeights (now weights) (drop start (now keys)) ⌝ }
+pub fn reached_head(keys: &[u64], start: usize, weights: &[u32], t: usize) -> u64
+    requires { ⌜ (0 < t) × (start ≤ length (now keys)) × HaveWeights (now weights) (drop start (now keys)) × (t ≤ sumOf (keyWeight (now weights)) (drop start (now keys))) ⌝ }
     ensures { λ r. ⌜ Reaches (now (weights .entry)) t (drop start (now (keys .entry))) r ⌝ }
 {
     if 0 < weights.len() {
         return weighted_head(keys, start, weights, t);
     }
-    if keys.len() - start < t {
-        return Reached::Past;
-    }
-    Reached::Head(nth_head(keys, start, t))
+    nth_head(keys, start, t)
 }
 
 // The keys of the row that are below `limit`: how many, and the mask of their runs.

@@ -1,21 +1,18 @@
--- A round as the code takes it: the last gap where the chosen runs with a head weigh too little, and the head up to which they weigh enough otherwise. Assumes
--- nothing.
+-- A round as the code takes it: the last gap where the weight that the state carries is too little, for it is the one in play, and the head up to which the chosen runs
+-- weigh enough otherwise. Assumes nothing.
 use Prim.Native.Nat.{ℕ, _-_, _/_, _≤_, _<_}
 use lib.Dec.{ltb}
 use lib.ListN.{length, drop}
 use mathlib.Core.List.{List, [], _∷_, List·Memᴰ}
-use mathlib.Core.Logic.{⊎-elim}
 use mathlib.Core.Path.{_≡_, sym, ap, _∙_, subst}
 use native.Mathlib.Omega.{arith}
 use Rattle.model.specs.Certificate.{gap}
 use Rattle.model.specs.Runs.{Run, lastBin, pastBin, weightOfAll, mask, maskOfAll, mostRuns}
 use Rattle.model.specs.Walk.{wrote, head, enoughHead, round, walk}
 use Rattle.model.specs.Rows.{below}
-use Rattle.model.proofs.Heads.{Heads, enough-none}
+use Rattle.model.proofs.Heads.{Heads}
 use Rattle.model.proofs.Masks.{Ascending}
-use Rattle.model.proofs.Tests.{lt-or-le}
-use Rattle.walk_keys.specs.Row.{noKey, labelSum, reachedHead, Reaches, HaveWeights}
-use Rattle.walk_keys.specs.declared.Reached.the-variants.{Head}
+use Rattle.walk_keys.specs.Row.{noKey, sumOf, labelSum, keyWeight, reachedHead, Reaches, HaveWeights}
 use Rattle.walk_progress.proofs.Progress.{onward-end}
 use Rattle.walk_tally.specs.Tally.{undoubled}
 use Rattle.walk_write.specs.Writes.{countsOf, goesOn, endsWith, Fitted, LastReady, LastGap}
@@ -29,7 +26,9 @@ use Rattle.walk_settle.proofs.Choosing.{chosen-labels, chosen-within, chosen-sm
 use Rattle.walk_progress.proofs.Rounds.{gap-mask, front-in-all, round-ends}
 use Rattle.walk_write.proofs.Rows.{row-labels, row-bins, row-mask, row-weights, reached-is}
 use Rattle.walk_state.proofs.Moving.{past-is}
-use Rattle.walk_state.specs.State.{chosenAt, InOrder}
+use Rattle.walk_settle.proofs.Passing.{row-plays}
+use Rattle.walk_state.proofs.Choosing.{idle-in-play}
+use Rattle.walk_state.specs.State.{runsAt, chosenAt, InOrder}
 
 module _ (numbers ends ws positions keys A B : List ℕ) (m t : ℕ) (w : State) (s : Stands numbers ends ws positions keys t w)
     (c : Chooses m numbers ends ws positions t) (fits : Fitted A B w) where
@@ -57,12 +56,20 @@ module _ (numbers ends ws positions keys A B : List ℕ) (m t : ℕ) (w : State)
   met : t ≤ weightOfAll cs
   met = chosen-met numbers ends ws positions m t c keys (w .start) (s .few) (s .holds)
 
-  pub reach-ready : (0 < t) × (w .start ≤ length keys) × HaveWeights ws row
-  reach-ready = (
-    s .some,
-    s .holds .starts,
-    row-weights cs labels small row order ws (length ends) (s .row) (chosen-within numbers ends ws positions m t c keys (w .start) (s .few) (s .holds)),
-  )
+  -- the weight that the state carries is that of the chosen runs with a head
+  carried : w .weight ≡ below pastBin cs
+  unfolding below
+  carried = s .in-play .sum ∙ sym (idle-in-play m (runsAt 0 numbers positions ends) (c .idle) ws)
+
+  pub reach-ready : t ≤ w .weight → (0 < t) × (w .start ≤ length keys) × HaveWeights ws row × (t ≤ sumOf (keyWeight ws) row)
+  reach-ready q =
+      let e = row-plays numbers ends positions keys (w .start) (s .few) (s .holds) ws in
+      let i = s .in-play .sum in (
+        s .some,
+        s .holds .starts,
+        row-weights cs labels small row order ws (length ends) (s .in-play .row) (chosen-within numbers ends ws positions m t c keys (w .start) (s .few) (s .holds)),
+        omega arith,
+      )
 
   -- the head that the row gives
   reached : reachedHead ws t row ≡ enoughHead t cs
@@ -90,12 +97,12 @@ module _ (numbers ends ws positions keys A B : List ℕ) (m t : ℕ) (w : State)
       }
 
   -- the gap that is written is the round's
-  last-round : reachedHead ws t row ≡ pastBin → (n : ℕ) → round (walk n t) t (w .floor) cs ≡ wrote (gap (w .floor) lastBin (m - labelSum row)) ∷ []
+  last-round : w .weight < t → (n : ℕ) → round (walk n t) t (w .floor) cs ≡ wrote (gap (w .floor) lastBin (m - labelSum row)) ∷ []
   last-round h n =
-      round-ends (walk n t) t (w .floor) cs (enough-none t cs heads (s .some) met .0 (sym reached ∙ h))
+      round-ends (walk n t) t (w .floor) cs (let e = carried in omega arith)
       ∙ λ i. wrote (gap (w .floor) lastBin ((sym (gap-mask cs pastBin) ∙ λ j. all-chosen j - sym row-named j) i)) ∷ []
 
-  pub ends-there : (B′ : List ℕ) (r : Turn) → reachedHead ws t row ≡ pastBin → LastGap m keys w B B′ r
+  pub ends-there : (B′ : List ℕ) (r : Turn) → w .weight < t → LastGap m keys w B B′ r
       → Goes (λ n. round (walk n t) t (w .floor) cs) m numbers ends ws t w A B positions keys A B′ r × Raises (w .floor) r
   unfolding goesOn endsWith
   ends-there B′ (On x) h g = absurd g
@@ -121,22 +128,12 @@ module _ (numbers ends ws positions keys A B : List ℕ) (m t : ℕ) (w : State)
       )
 
   -- a head that is reached is a bin
-  module _ (v : ℕ) (r : Reaches ws t row (Head v)) where
+  module _ (v : ℕ) (r : Reaches ws t row v) where
     head-bin : v < pastBin
     head-bin = let k = r .1 in let b = bins (k .0) (k .1) in omega (arith, k .2)
 
     pub head-fits : v < 4294967296
     head-fits = let b = head-bin in let e = past-is in omega arith
 
-    pub advances : Advances m numbers ends ws positions t v
-    advances =
-        let e = sym reached ∙ r .0 in
-        record {
-          bin = head-bin;
-          left =
-              ⊎-elim
-              (λ (q : below pastBin cs < t). let p = enough-none t cs heads (s .some) met .1 q in let b = head-bin in absurd (omega arith))
-              (λ (q : t ≤ below pastBin cs). q)
-              (lt-or-le (below pastBin cs) t);
-          least = e;
-        }
+    pub advances : t ≤ w .weight → Advances m numbers ends ws positions t v
+    advances q = record { bin = head-bin; left = let e = carried in omega arith; least = sym reached ∙ r .0 }

@@ -1,15 +1,14 @@
-// One round of the walk over the chosen runs (docs/SPECIFICATION.md, 'The walk'): the last gap where those with a head weigh too little, and otherwise a round from
-// the head on up to which they weigh enough.
+// One round of the walk over the chosen runs (docs/SPECIFICATION.md, 'The walk'): the last gap where the weight still in play is too little, and otherwise a round from
+// the head on up to which the runs weigh enough.
 ghost use Rattle.model.specs.Walk.{round, walk};
 ghost use Rattle.walk_state.specs.State.{chosenAt};
 ghost use Rattle.walk_write.specs.Writes.{Fitted};
 ghost use Rattle.walk_settle.specs.Turns.{Stands, Chooses, Goes};
 ghost use Rattle.walk_advance.specs.Advances.{Raises};
-use walk_keys::Reached;
 use walk_write::State;
 use walk_write::Turn;
 
-// One round. It ends the walk where the chosen runs with a head weigh less than `threshold`.
+// One round. It ends the walk where the weight still in play, which the state carries, is less than `threshold`.
 pub fn round(
     numbers: &[u32],
     ends: &[u32],
@@ -26,9 +25,10 @@ pub fn round(
     ensures goes { λ r. ⌜ Goes (λ n. round (walk n threshold) threshold (w .floor) (chosenAt (now (weights .entry)) chosen (now (numbers .entry)) (now (positions .entry)) (now (ends .entry)))) chosen (now (numbers .entry)) (now (ends .entry)) (now (weights .entry)) threshold w (now (answers .entry)) (now (certificate .entry)) (now (positions .exit)) (now (keys .exit)) (now (answers .exit)) (now (certificate .exit)) r ⌝ }
     ensures raises { λ r. ⌜ Raises (w .floor) r ⌝ }
 {
-    let Reached::Head(v) = walk_keys::reached_head(keys, w.start, weights, threshold) else {
+    if w.weight < threshold {
         return walk_write::last_gap(chosen, keys, certificate, w);
-    };
+    }
+    let v = walk_keys::reached_head(keys, w.start, weights, threshold);
     walk_advance::advance(
         numbers,
         ends,

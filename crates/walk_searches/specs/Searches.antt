@@ -6,7 +6,7 @@ use Rattle.model.specs.Compared.{halvingsOf, probesOf}
 use Rattle.model.specs.Rows.{halvingsWithin}
 use Rattle.model.specs.Runs.{Run}
 use Rattle.model.specs.Walk.{Event, searches, searched}
-use Rattle.walk_state.specs.State.{Holds}
+use Rattle.walk_state.specs.State.{Holds, InPlay}
 use Rattle.walk_state.specs.Moves.{PlacedAt}
 use Rattle.walk_seek.specs.declared.Probed.{Probed}
 use Rattle.walk_seek.specs.declared.Probed.the-variants.{Left, NoneLeft}
@@ -23,13 +23,14 @@ abbrev pub Exhausted : List Event → ℕ → ℕ → Type 0
 Exhausted es tally after =
     (leftIn tally < probesOf es) × (leftIn after ≡ 0) × (halvedIn after ≡ halvedIn tally + halvingsWithin (leftIn tally) es)
 
--- all runs searched whose head is below v
-abbrev pub SearchedRuns : List ℕ → List ℕ → List Run → ℕ → ℕ → List ℕ → List ℕ → Moved → Type 0
-SearchedRuns numbers ends rs v tally positions′ keys′ (On next after) =
-    Tallied (searches v rs) tally after × Holds numbers ends positions′ keys′ next (map (searched v) rs)
-SearchedRuns numbers ends rs v tally positions′ keys′ (Spent after) = Exhausted (searches v rs) tally after
+-- all runs searched whose head is below v, and the weight then in play
+abbrev pub SearchedRuns : List ℕ → List ℕ → List ℕ → List Run → ℕ → ℕ → List ℕ → List ℕ → Moved → Type 0
+SearchedRuns numbers ends weights rs v tally positions′ keys′ (On next after weight) =
+    Tallied (searches v rs) tally after × Holds numbers ends positions′ keys′ next (map (searched v) rs) × InPlay numbers ends weights positions′ weight
+SearchedRuns numbers ends weights rs v tally positions′ keys′ (Spent after) = Exhausted (searches v rs) tally after
 
 -- the same, where keys are not put back
-abbrev pub SearchedEach : List ℕ → List ℕ → List Run → ℕ → ℕ → List ℕ → Probed → Type 0
-SearchedEach numbers ends rs v tally positions′ (Left after) = Tallied (searches v rs) tally after × PlacedAt numbers ends (map (searched v) rs) positions′
-SearchedEach numbers ends rs v tally positions′ (NoneLeft after) = Exhausted (searches v rs) tally after
+abbrev pub SearchedEach : List ℕ → List ℕ → List ℕ → List Run → ℕ → ℕ → List ℕ → Probed → Type 0
+SearchedEach numbers ends weights rs v tally positions′ (Left after weight) =
+    Tallied (searches v rs) tally after × PlacedAt numbers ends (map (searched v) rs) positions′ × InPlay numbers ends weights positions′ weight
+SearchedEach numbers ends weights rs v tally positions′ (NoneLeft after) = Exhausted (searches v rs) tally after

@@ -2,16 +2,19 @@
 -- floor, and what is left after a front is taken out. Assumes nothing.
 use Prim.Native.Nat.{ℕ, suc, _+_, _-_, _*_, _^_, _≤_, _<_}
 use borrow.Author.Tests.{lt-ltb, le-ltb, eq-eqb, ne-eqb, eqb-true}
+use lib.Count.{ones}
 use lib.Dec.{ltb, eqb}
-use lib.ListN.{length, drop, length-drop}
+use lib.ListN.{length, drop, length-drop, getD}
 use lib.Seq.{drop-drop}
 use mathlib.Core.Bool.{true, false}
 use mathlib.Core.List.{List, map, List·Memᴰ}
 use mathlib.Core.Logic.{⊎-elim, _≢_}
 use mathlib.Core.Path.{_≡_, refl, sym, ap, _∙_, subst}
+use Rattle.walk_state.proofs.Choosing.{weighted-order}
+use Rattle.model.proofs.Weighted.{weighted-ascending, weighted-mem}
 use native.Mathlib.Omega.{arith}
-use Rattle.model.specs.Runs.{Run, lastBin, pastBin, total, mask, names, mostRuns, maskBits}
-use Rattle.model.specs.Walk.{head, headOf, movedOn}
+use Rattle.model.specs.Runs.{Run, lastBin, pastBin, total, mask, names, mostRuns, maskBits, weightedRun, weighted}
+use Rattle.model.specs.Walk.{head, headOf, movedOn, weightInPlay}
 use Rattle.model.proofs.Count.{total-eq}
 use Rattle.model.specs.Rows.{Rise, Ordered}
 use Rattle.model.proofs.From.{from-past-head, from-other-head, rise-from, head-least}
@@ -20,15 +23,15 @@ use Rattle.model.proofs.Ordered.{ordered-drop}
 use Rattle.model.proofs.Tests.{both, eq-or-ne}
 use Rattle.model.proofs.Walking.{past-last, map-same, map-mem}
 use Rattle.walk_keys.proofs.Row.{below-le}
-use Rattle.walk_keys.specs.Row.{sumOf, belowCount, labelSum, Labels}
+use Rattle.walk_keys.specs.Row.{sumOf, belowCount, labelSum, Labels, keyWeight}
 use Rattle.walk_write.specs.Writes.{countsOf}
 use Rattle.walk_settle.specs.Turns.{Stands, AtFloor, Passes}
 use Rattle.walk_write.specs.declared.State.{State}
 use Rattle.walk_write.specs.declared.Turn.the-variants.{On, Done}
-use Rattle.walk_write.proofs.Rows.{row-labels, row-sum, front-names, rest-same}
+use Rattle.walk_write.proofs.Rows.{row-labels, row-sum, front-names, rest-same, row-in-play}
 use Rattle.walk_state.proofs.Moving.{runs-at-length, runs-at-labels}
 use Rattle.walk_state.specs.Moves.{stepNamed, StepReady}
-use Rattle.walk_state.specs.State.{runsAt, keyed, notNamed, Holds, Lacks}
+use Rattle.walk_state.specs.State.{runsAt, keyed, notNamed, Holds, Lacks, InPlay}
 
 -- what holds of the runs that the rows hold
 module _ (numbers ends positions keys : List ℕ) (start : ℕ) (few : length ends ≤ mostRuns)
@@ -47,6 +50,15 @@ module _ (numbers ends positions keys : List ℕ) (start : ℕ) (few : length en
 
   pub front-asks : (start ≤ length keys) × Labels (drop start keys) × (labelSum (drop start keys) < 2 ^ maskBits)
   front-asks = (h .starts, row-labels rs labels small (drop start keys) (h .order), row-sum rs labels small (drop start keys) (h .order))
+
+  -- the runs of the row weigh what is in play
+  pub row-plays : (ws : List ℕ) → sumOf (keyWeight ws) (drop start keys) ≡ weightInPlay (weighted ws rs)
+  unfolding weightedRun
+  row-plays ws =
+      row-in-play (weighted ws rs) (weighted-ascending ws labels)
+      (λ q m. let p = weighted-mem ws rs q m in let l = small (p .0) (p .1) in let e = ap (λ (x : Run). x .label) (p .2) in omega arith)
+      (drop start keys) (weighted-order ws (h .order)) ws
+      (λ q m. let p = weighted-mem ws rs q m in ap (λ (x : Run). x .weight) (p .2) ∙ ap (λ (x : Run). getD ws (x .label) 1) (sym (p .2)))
 
   -- a front taken out
   pub taken-out : (u : ℕ) → u ≤ pastBin → (n named : ℕ) → n ≡ belowCount (u * 256) (drop start keys) → named ≡ mask (λ r. ltb (head r) u) rs
@@ -122,37 +134,40 @@ module _ (numbers ends ws positions keys : List ℕ) (t : ℕ) (w : State) (n na
       (drop (w .start) keys) (s .holds .order) (w .floor + 1) r m
       ∙ at-floor (w .floor) (head r) (heads r m))
 
-  pub step-ready : StepReady numbers ends positions keys (w .start + n) named
+  pub step-ready : StepReady numbers ends positions keys (w .start + n) named × (n ≡ ones named) × InPlay numbers ends ws positions (w .weight)
   step-ready =
-      let b = s .bin in
-      record {
-        few = s .few;
-        lacks =
-            taken-out numbers ends positions keys (w .start) (s .few) (s .holds) (w .floor + 1) (omega arith) n named (a .counts)
-            (a .names-them ∙ sym (floor-mask (w .floor) runs′ heads));
-        heads = λ r m q. let e = eqb-true (head r) (w .floor) (sym (names-equal r m) ∙ q) in omega arith;
-      }
+      let b = s .bin in (
+        record {
+          few = s .few;
+          lacks =
+              taken-out numbers ends positions keys (w .start) (s .few) (s .holds) (w .floor + 1) (omega arith) n named (a .counts)
+              (a .names-them ∙ sym (floor-mask (w .floor) runs′ heads));
+          heads = λ r m q. let e = eqb-true (head r) (w .floor) (sym (names-equal r m) ∙ q) in omega arith;
+        },
+        a .ones-are,
+        s .in-play,
+      )
 
-  pub passed-on : (positions′ keys′ : List ℕ) (start : ℕ) → w .floor ≢ lastBin
-      → Holds numbers ends positions′ keys′ start (map (stepNamed named) runs′)
+  pub passed-on : (positions′ keys′ : List ℕ) (start weight : ℕ) → w .floor ≢ lastBin
+      → Holds numbers ends positions′ keys′ start (map (stepNamed named) runs′) × InPlay numbers ends ws positions′ weight
       → Passes numbers ends ws positions t w positions′ keys′
-      (On (record { floor = w .floor + 1; start = start; answers = w .answers; parts = w .parts; bytes = w .bytes; tally = w .tally }))
+      (On (record { floor = w .floor + 1; start = start; answers = w .answers; parts = w .parts; bytes = w .bytes; tally = w .tally; weight = weight }))
   unfolding countsOf
-  passed-on positions′ keys′ start q h =
+  passed-on positions′ keys′ start weight q (h, l) =
       let b = s .bin in
-      let l = past-last in
+      let o = past-last in
       let e : w .floor + 1 ≡ suc (w .floor) = omega arith in
       let i : runsAt 0 numbers positions′ ends ≡ map (movedOn (w .floor)) runs′ =
       h .runs-are ∙ map-same (stepNamed named) (movedOn (w .floor)) runs′ (λ r k. step-is (w .floor) named r (names-equal r k)) in
       let j : map (stepNamed named) runs′ ≡ runsAt 0 numbers positions′ ends = sym (h .runs-are) in (
         record {
-          row = s .row;
           few = s .few;
           some = s .some;
           holds = subst (λ x. Holds numbers ends positions′ keys′ start x) j h;
           rising = λ r k.
               let p = map-mem (movedOn (w .floor)) runs′ r (subst (λ x. List·Memᴰ r x) i k) in
               subst (λ x. Rise (w .floor + 1) (x .bins)) (sym (p .2)) (subst (λ x. Rise x (movedOn (w .floor) (p .0) .bins)) (sym e) (moved-rises (w .floor) (p .0) b (s .rising (p .0) (p .1))));
+          in-play = l;
           bin = omega arith;
           allowed = s .allowed;
         },

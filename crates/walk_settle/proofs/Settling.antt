@@ -27,23 +27,23 @@ use Rattle.walk_settle.proofs.Passing.{labels, number, small, heads-fro
 use Rattle.walk_write.proofs.Rows.{front-mask, front-count}
 use Rattle.walk_progress.specs.Progress.{onward}
 use Rattle.walk_progress.proofs.Rounds.{settle-passes, settle-answers, settle-ends}
-use Rattle.walk_state.specs.State.{runsAt, chosenAt, Holds}
+use Rattle.walk_state.specs.State.{runsAt, chosenAt, Holds, InPlay}
 use Rattle.walk_tally.specs.Tally.{undoubled}
 use Rattle.walk_state.proofs.Choosing.{idle-equal, idle-mask, moved-keeps}
 use Rattle.walk_state.proofs.Moving.{runs-at-labels}
 use Rattle.weights.specs.Named.{namedWeight, Weighs}
 use Rattle.weights.proofs.Named.{named-weight}
 
--- a state with the same floor, start and tally stands where the other does
+-- a state with the same floor, start, tally and weight stands where the other does
 pub stands-same : (numbers ends ws positions keys : List ℕ) (t : ℕ) (w x : State) → x .floor ≡ w .floor → x .start ≡ w .start → x .tally ≡ w .tally
-    → Stands numbers ends ws positions keys t w → Stands numbers ends ws positions keys t x
-stands-same numbers ends ws positions keys t w x e f l s =
+    → x .weight ≡ w .weight → Stands numbers ends ws positions keys t w → Stands numbers ends ws positions keys t x
+stands-same numbers ends ws positions keys t w x e f l g s =
     record {
-      row = s .row;
       few = s .few;
       some = s .some;
       holds = subst (λ z. Holds numbers ends positions keys z (runsAt 0 numbers positions ends)) (sym f) (s .holds);
       rising = λ r m. subst (λ z. Rise z (r .bins)) (sym e) (s .rising r m);
+      in-play = subst (λ z. InPlay numbers ends ws positions z) (sym g) (s .in-play);
       bin = let b = s .bin in omega arith;
       allowed = subst (λ z. undoubled z < 4294967296) (sym l) (s .allowed);
     }
@@ -87,8 +87,8 @@ module _ (numbers ends ws positions keys : List ℕ) (t : ℕ) (w : State) (n na
       let f = s .few in (
         number-is,
         record {
-          few = ⊎-elim (λ (q : 0 < length ws). let e = s .row q in omega arith) (λ (q : length ws ≤ 0). omega arith) (lt-or-le 0 (length ws));
-          within = λ q. subst (λ x. named < 2 ^ x) (runs-are ∙ sym (s .row q)) only-these;
+          few = ⊎-elim (λ (q : 0 < length ws). let e = s .in-play .row q in omega arith) (λ (q : length ws ≤ 0). omega arith) (lt-or-le 0 (length ws));
+          within = λ q. subst (λ x. named < 2 ^ x) (runs-are ∙ sym (s .in-play .row q)) only-these;
         },
       )
 
@@ -166,9 +166,10 @@ module _ (numbers ends ws positions keys : List ℕ) (t : ℕ) (w : State) (n na
     pub stands-after : (x : State) (A′ B′ : List ℕ) → Answers w named A B A′ B′ (answered′.On x)
         → Stands numbers ends ws positions keys t x × AtFloor numbers ends positions keys x n named
     stands-after x A′ B′ a = (
-      stands-same numbers ends ws positions keys t w x (a .1) (a .2) (a .3) s,
+      stands-same numbers ends ws positions keys t w x (a .1) (a .2) (a .3) (a .4) s,
       record {
         counts = counts ∙ (λ i. belowCount ((sym (a .1) i + 1) * 256) (drop (sym (a .2) i) keys));
+        ones-are = number-is;
         names-them = named-is ∙ ap (λ y. mask (λ r. eqb (head r) y) rs) (sym (a .1));
       },
     )
@@ -183,7 +184,7 @@ module _ (numbers ends ws positions keys : List ℕ) (t : ℕ) (w : State) (n na
             omega arith,
             λ allowance k o.
                 ap (goesOn allowance w A B) (ends-there m c h (sym (a .1) ∙ p .0) k)
-                ∙ (a .4 allowance []
+                ∙ (a .5 allowance []
                 ∙ (Rattle.walk_progress.proofs.Progress.onward-end allowance (countsOf allowance x) A′ B′ ∙ ap (λ y. endsWith 0 allowance y A′ B′) (sym (p .1)))),
           )),
           tt,
@@ -206,7 +207,7 @@ module _ (numbers ends ws positions keys : List ℕ) (t : ℕ) (w : State) (n na
             λ allowance k o.
                 let moved = chosen-moved numbers ends ws positions m t c (movedOn (x .floor)) (moved-keeps (x .floor)) positions′ (p .3) in
                 ap (goesOn allowance w A B) (goes-there m c h y k)
-                ∙ (a .4 allowance (walk k t (suc (w .floor)) (map (movedOn (w .floor)) (chosenAt ws m numbers positions ends)))
+                ∙ (a .5 allowance (walk k t (suc (w .floor)) (map (movedOn (w .floor)) (chosenAt ws m numbers positions ends)))
                 ∙ ((λ i. onward allowance (sym (p .4 allowance) i) A′ B′ (walk k t (suc (sym f i)) (map (movedOn (sym f i)) (chosenAt ws m numbers positions ends))))
                 ∙ (λ i. onward allowance (countsOf allowance x′) A′ B′ (walk k t (sym g i) (sym moved i))))),
           )),

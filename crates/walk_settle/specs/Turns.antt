@@ -4,6 +4,7 @@ use Prim.Native.Nat.{ℕ, suc, _+_, _-_, _*_, _^_, _≤_, _<_}
 use mathlib.Core.List.{List, map, List·Memᴰ}
 use mathlib.Core.Logic.{_⊎_}
 use mathlib.Core.Path.{_≡_}
+use lib.Count.{ones}
 use lib.Dec.{eqb}
 use lib.ListN.{length, drop}
 use Rattle.model.specs.Rows.{Rise, equal}
@@ -13,18 +14,18 @@ use Rattle.walk_keys.specs.Row.{belowCount}
 use Rattle.walk_write.specs.declared.State.{State}
 use Rattle.walk_write.specs.declared.Turn.{Turn}
 use Rattle.walk_write.specs.declared.Turn.the-variants.{On, Done, Stopped}
-use Rattle.walk_state.specs.State.{runsAt, chosenAt, Holds, Idle}
+use Rattle.walk_state.specs.State.{runsAt, chosenAt, Holds, Idle, InPlay}
 use Rattle.walk_tally.specs.Tally.{undoubled}
 use Rattle.walk_write.specs.Writes.{countsOf, goesOn, endsWith, Fitted}
 use Rattle.weights.specs.Named.{namedWeight}
 
--- a state before a round: the rows hold the runs, which rise from the floor on, there is a weight for each run or none, and its allowance is one of 32 bits
+-- a state before a round: the rows hold the runs, which rise from the floor on, its weight is the one still in play, and its allowance is one of 32 bits
 pub record Stands (numbers ends weights positions keys : List ℕ) (t : ℕ) (w : State) : Type 0 where
-  pub row : 0 < length weights → length weights ≡ length ends
   pub few : length ends ≤ mostRuns
   pub some : 0 < t
   pub holds : Holds numbers ends positions keys (w .start) (runsAt 0 numbers positions ends)
   pub rising : (r : Run) → List·Memᴰ r (runsAt 0 numbers positions ends) → Rise (w .floor) (r .bins)
+  pub in-play : InPlay numbers ends weights positions (w .weight)
   pub bin : w .floor < pastBin
   pub allowed : undoubled (w .tally) < 4294967296
 
@@ -56,6 +57,7 @@ Settles rs t v (Stopped x w′) = Unit
 -- the runs whose head is the floor, at the front of the row
 pub record AtFloor (numbers ends positions keys : List ℕ) (w : State) (number named : ℕ) : Type 0 where
   pub counts : number ≡ belowCount ((w .floor + 1) * 256) (drop (w .start) keys)
+  pub ones-are : number ≡ ones named
   pub names-them : named ≡ mask (λ r. eqb (head r) (w .floor)) (runsAt 0 numbers positions ends)
 
 -- past an answer: the walk ends at the last bin, and goes on from the next one otherwise

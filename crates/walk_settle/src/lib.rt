@@ -41,22 +41,25 @@ fn pass(
     if w.floor == limits::LAST_BIN {
         return Turn::Done(w);
     }
-    let start = walk_step::step_runs(
+    let stepped = walk_step::step_runs(
         numbers,
         ends,
+        weights,
         positions,
         keys,
         w.start + number,
         named,
         number,
+        w.weight,
     );
     Turn::On(State {
         floor: w.floor + 1,
-        start: start,
+        start: stepped.start,
         answers: w.answers,
         parts: w.parts,
         bytes: w.bytes,
         tally: w.tally,
+        weight: stepped.weight,
     })
 }
 

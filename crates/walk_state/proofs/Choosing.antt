@@ -1,7 +1,7 @@
 -- A walk over the runs that a mask chooses, in rows that hold all runs: the others have no number left, so that what the rows say of all runs they say of the
 -- chosen, with whatever weights. It stays so where runs are moved. Assumes nothing.
 use Prim.Native.Nat.{ℕ, _≤_, _<_}
-use borrow.Author.Tests.{ne-eqb}
+use borrow.Author.Tests.{ne-eqb, le-ltb}
 use lib.Dec.{ltb, eqb}
 use lib.ListN.{drop}
 use lib.Seq.{drop-nil}
@@ -12,7 +12,7 @@ use mathlib.Core.Path.{_≡_, sym, ap, _∙_}
 use native.Mathlib.Omega.{arith}
 use Rattle.model.specs.Rows.{equal}
 use Rattle.model.specs.Runs.{Run, pastBin, weightedRun, weighted, weightOf, mask, bit, names, chosen}
-use Rattle.model.specs.Walk.{head, headOf, seek, searches, searched, movedOn}
+use Rattle.model.specs.Walk.{head, headOf, seek, searches, searched, movedOn, weightInPlay}
 use Rattle.model.proofs.Chosen.{chosen-total, chosen-weight, chosen-mask, chosen-searches}
 use Rattle.model.proofs.Count.{total-map}
 use Rattle.model.proofs.Tests.{both}
@@ -45,6 +45,17 @@ module _ (m : ℕ) (rs : List Run) (i : Idle m rs) where
         let h = idle-head (p .0) (p .1) (sym (ap (names m) (p .2)) ∙ e) in
         let k = ap head (p .2) in
         ne-eqb (head q) v (omega arith))
+
+    pub idle-in-play : weightInPlay (weighted ws (chosen m rs)) ≡ weightInPlay (weighted ws rs)
+    unfolding names weightedRun head
+    idle-in-play =
+        ap weightInPlay (sym (weighted-chosen ws m rs))
+        ∙ chosen-weight m (λ r. ltb (head r) pastBin) (weighted ws rs)
+        (λ q n e.
+        let p = weighted-mem ws rs q n in
+        let h = idle-head (p .0) (p .1) (sym (ap (names m) (p .2)) ∙ e) in
+        let k = ap head (p .2) in
+        le-ltb (head q) pastBin (omega arith))
 
     pub idle-mask : (v : ℕ) → v < pastBin → mask (λ r. eqb (head r) v) (weighted ws (chosen m rs)) ≡ mask (λ r. eqb (head r) v) rs
     unfolding weightedRun head

@@ -180,6 +180,14 @@ search-move numbers v run p e r f h =
     ∙ (searched-moves v (record { label = run; weight = 1; bins = slice numbers p e }) (ap (λ x. ltb (head x) v) (sym f) ∙ h)
     ∙ λ d. record { label = run; weight = 1; bins = drop-part (seek v (slice numbers p e) .place) p e numbers d })
 
+pub step-label : (mask : ℕ) (r : Run) → stepNamed mask r .label ≡ r .label
+unfolding stepNamed
+step-label mask r =
+    ⊎-elim
+    (λ (q : names mask r ≡ true). rw (q, stepNamed))
+    (λ (q : names mask r ≡ false). rw (q, stepNamed))
+    (both (names mask r))
+
 pub step-still : (mask : ℕ) (r : Run) → names mask r ≡ false → stepNamed mask r ≡ r
 unfolding stepNamed
 step-still mask r e = rw (e, stepNamed)

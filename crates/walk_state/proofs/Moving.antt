@@ -99,7 +99,7 @@ map-one f g {a} (r ∷ rs) l (suc j) h e =
     (map-one f g rs (label-rest l) j (omega arith) (λ s m o. e s (List·Memᴰ·tail m) (λ q. o (omega arith))))
 
 -- two sums that differ at one run only
-total-one : (f g : Run → ℕ) {a : ℕ} (rs : List Run) → Labelled a rs → (j : ℕ) → j < length rs
+pub total-one : (f g : Run → ℕ) {a : ℕ} (rs : List Run) → Labelled a rs → (j : ℕ) → j < length rs
     → ((r : Run) → List·Memᴰ r rs → r .label ≢ a + j → f r ≡ g r) → total g rs + f (getD rs j noRun) ≡ total f rs + g (getD rs j noRun)
 unfolding total
 total-one f g [] l j h e = absurd (omega arith)
@@ -140,7 +140,7 @@ pub record Cleared (rest rest′ i : ℕ) : Type 0 where
   pub gone : bit rest′ i ≡ 0
   pub kept : (j : ℕ) → j ≢ i → bit rest′ j ≡ bit rest j
 
-names-kept : (rest rest′ i : ℕ) → Cleared rest rest′ i → (r : Run) → r .label ≢ i → names rest′ r ≡ names rest r
+pub names-kept : (rest rest′ i : ℕ) → Cleared rest rest′ i → (r : Run) → r .label ≢ i → names rest′ r ≡ names rest r
 unfolding names
 names-kept rest rest′ i k r n = ap (λ (x : ℕ). eqb x 1) (k .kept (r .label) n)
 

@@ -6,8 +6,8 @@ use mathlib.Core.Path.{_≡_}
 use lib.Dec.{ltb}
 use lib.ListN.{length, getD, drop}
 use Rattle.model.specs.Rows.{Ordered}
-use Rattle.model.specs.Runs.{Run, slice, pastBin, weighted, total, names, chosen}
-use Rattle.model.specs.Walk.{head}
+use Rattle.model.specs.Runs.{Run, slice, pastBin, weighted, total, weightOf, names, chosen}
+use Rattle.model.specs.Walk.{head, weightInPlay}
 use Rattle.walk_keys.specs.Row.{insertKey, sumOf}
 
 -- the runs from label i on, each at its position
@@ -72,3 +72,16 @@ pub record Idle (chosen : ℕ) (rs : List Run) : Type 0 where
 -- the runs that a mask chooses, each at its position and with its weight
 abbrev pub chosenAt : List ℕ → ℕ → List ℕ → List ℕ → List ℕ → List Run
 chosenAt weights m numbers positions ends = weighted weights (chosen m (runsAt 0 numbers positions ends))
+
+-- a weight is the one still in play, where there is a weight for each run, or none and each weighs 1
+pub record InPlay (numbers ends weights positions : List ℕ) (weight : ℕ) : Type 0 where
+  pub row : 0 < length weights → length weights ≡ length ends
+  pub sum : weight ≡ weightInPlay (weighted weights (runsAt 0 numbers positions ends))
+
+-- what a run no longer adds to it that was moved to a place: its weight, where it has no number left there
+unfoldable pub lostAt : List ℕ → ℕ → ℕ → ℕ → ℕ
+lostAt weights run place end = elim (ltb place end) [ true ↦ 0 | false ↦ getD weights run 1 ]
+
+-- the weight in play if each run that a mask names had a head
+unfoldable pub weightIfHeads : ℕ → List Run → ℕ
+weightIfHeads named rs = weightOf (λ r. elim (names named r) [ true ↦ true | false ↦ ltb (head r) pastBin ]) rs

@@ -1,7 +1,15 @@
-// Runs moved on by one past an answer; their keys are put in the row.
+// Runs moved on by one past an answer; their keys are put in the row, and the weight still in play (walk_weight) is then right again.
 ghost use mathlib.Core.List.{map};
-ghost use Rattle.walk_state.specs.State.{runsAt, Holds};
+ghost use mathlib.Core.Path.{_≡_};
+ghost use lib.Count.{ones};
+ghost use Rattle.walk_state.specs.State.{runsAt, Holds, InPlay};
 ghost use Rattle.walk_state.specs.Moves.{PlacedAt, stepNamed, Steppable, StepReady};
+
+// Where the row of keys starts after a step, and the weight then in play.
+pub struct Stepped {
+    pub start: usize,
+    pub weight: usize,
+}
 
 // Moves each run that `movers` names on by one. The keys stay.
 fn step_each(numbers: &[u32], ends: &[u32], positions: &mut [u32], movers: u64)
@@ -17,19 +25,35 @@ fn step_each(numbers: &[u32], ends: &[u32], positions: &mut [u32], movers: u64)
     }
 }
 
-// Moves each run that `movers` names on by one and puts its key back. The row of keys then starts at the place returned.
+// Moves each run that `movers` names, `count` of them, on by one and puts its key back. As many keys as are put back are runs with a number left.
 pub fn step_runs(
     numbers: &[u32],
     ends: &[u32],
+    weights: &[u32],
     positions: &mut [u32],
     keys: &mut [u64],
     from: usize,
     movers: u64,
     count: usize,
-) -> usize
-    requires { ⌜ StepReady (now numbers) (now ends) (now positions) (now keys) from movers ⌝ }
-    ensures { λ r. ⌜ Holds (now (numbers .entry)) (now (ends .entry)) (now (positions .exit)) (now (keys .exit)) r (map (stepNamed movers) (runsAt 0 (now (numbers .entry)) (now (positions .entry)) (now (ends .entry)))) ⌝ }
+    weight: usize,
+) -> Stepped
+    requires { ⌜ StepReady (now numbers) (now ends) (now positions) (now keys) from movers × (count ≡ ones movers) × InPlay (now numbers) (now ends) (now weights) (now positions) weight ⌝ }
+    ensures { λ r. ⌜ Holds (now (numbers .entry)) (now (ends .entry)) (now (positions .exit)) (now (keys .exit)) (r .start) (map (stepNamed movers) (runsAt 0 (now (numbers .entry)) (now (positions .entry)) (now (ends .entry)))) × InPlay (now (numbers .entry)) (now (ends .entry)) (now (weights .entry)) (now (positions .exit)) (r .weight) ⌝ }
 {
     step_each(numbers, ends, positions, movers);
-    walk_put::put_runs(numbers, ends, positions, keys, from, movers, count)
+    let start = walk_put::put_runs(numbers, ends, positions, keys, from, movers, count);
+    let left = walk_weight::stepped(
+        numbers,
+        ends,
+        weights,
+        positions,
+        movers,
+        count,
+        from - start,
+        weight,
+    );
+    Stepped {
+        start: start,
+        weight: left,
+    }
 }

@@ -1,12 +1,14 @@
 -- The walk's first state stands, and where its rounds end the question does. Assumes nothing.
 use Prim.Native.Nat.{ℕ, _^_, _≤_, _<_}
+use lib.ListN.{length, drop}
 use mathlib.Core.List.{List, map, List·Memᴰ}
 use mathlib.Core.Path.{_≡_, sym, ap, _∙_, subst}
 use native.Mathlib.Omega.{arith}
 use Rattle.model.specs.Compared.{wholeWalk}
 use Rattle.model.specs.Demands.{Fits}
 use Rattle.model.specs.Rows.{Rise}
-use Rattle.model.specs.Runs.{Run, firstBin, pastBin, runs, weighted, chosen}
+use Rattle.model.proofs.Masks.{label-below}
+use Rattle.model.specs.Runs.{Run, firstBin, pastBin, runs, weighted, chosen, mostRuns}
 use Rattle.model.specs.Walk.{walk}
 use Rattle.model.proofs.FirstChecks.{lists-passed, runs-rising, all-labelled, all-length}
 use Rattle.model.proofs.Zeros.{first-is}
@@ -20,15 +22,18 @@ use Rattle.walk_whole.specs.Whole.{askedRuns, Begins, countsFrom, ComesT
 use Rattle.walk_rounds.specs.declared.End.{End}
 use Rattle.walk_write.specs.declared.State.{State}
 use Rattle.walk_begin.proofs.Standing.{standing-idle, standing-chosen, standing-rises}
-use Rattle.walk_state.proofs.Moving.{past-is}
+use Rattle.walk_keys.specs.Row.{sumOf, keyWeight, HaveWeights}
+use Rattle.walk_settle.proofs.Passing.{labels, number, small, row-plays}
+use Rattle.walk_state.proofs.Moving.{past-is, runs-at-labels}
+use Rattle.walk_write.proofs.Rows.{row-weights}
 use Rattle.walk_begin.specs.Begin.{BeginReady, standing}
 use Rattle.walk_state.specs.State.{runsAt, chosenAt, Holds, Idle}
 use Rattle.weights.specs.Named.{namedWeight}
 use Rattle.weights.proofs.Named.{named-weight}
 
 -- the state before the first round
-abbrev pub firstState : ℕ → ℕ → ℕ → ℕ → State
-firstState start answered written tally = record { floor = 1; start = start; answers = answered; parts = 0; bytes = written; tally = tally }
+abbrev pub firstState : ℕ → ℕ → ℕ → ℕ → ℕ → State
+firstState start answered written tally weight = record { floor = 1; start = start; answers = answered; parts = 0; bytes = written; tally = tally; weight = weight }
 
 module _ (numbers ends ws firsts : List ℕ) (m t : ℕ) (positions keys A B : List ℕ) (answered written tally : ℕ)
     (b : Begins numbers ends ws firsts m t positions keys A B answered written tally) where
@@ -48,6 +53,21 @@ module _ (numbers ends ws firsts : List ℕ) (m t : ℕ) (positions keys A B : L
         let s = standing-rises m firstBin (q .0) (runs-rising numbers ends fits (lists-passed numbers ends (b .asked .lists)) .each (q .0) (q .1)) in
         subst (λ x. Rise x (r .bins)) first-is (subst (λ (x : Run). Rise firstBin (x .bins)) (sym (q .2)) s)
 
+    held : Holds numbers ends positions′ keys′ start (runsAt 0 numbers positions′ ends)
+    held = subst (λ x. Holds numbers ends positions′ keys′ start x) (sym (h .runs-are)) h
+
+    -- what the weight that is summed asks
+    pub row-ready : (start ≤ length keys′) × (length keys′ ≤ mostRuns) × HaveWeights ws (drop start keys′)
+    row-ready =
+        let few = b .asked .few in
+        let z = h .size in (
+          h .starts,
+          omega arith,
+          row-weights (runsAt 0 numbers positions′ ends) (labels numbers ends positions′ keys′ start few held) (small numbers ends positions′ keys′ start few held)
+              (drop start keys′) (held .order) ws (length ends) (b .asked .row)
+              (λ r m. let n = number numbers ends positions′ keys′ start few held in let l = label-below _ (runs-at-labels 0 numbers positions′ ends) r m in omega arith),
+        )
+
     -- what the chosen weigh
     met : t ≤ namedWeight ws m
     met =
@@ -57,15 +77,15 @@ module _ (numbers ends ws firsts : List ℕ) (m t : ℕ) (positions keys A B : L
         let k = b .asked .met in
         omega arith
 
-    pub stands-first : Stands numbers ends ws positions′ keys′ t (firstState start answered written tally) × Chooses m numbers ends ws positions′ t
-        × Fitted A B (firstState start answered written tally)
-    stands-first = (
+    pub stands-first : (weight : ℕ) → weight ≡ sumOf (keyWeight ws) (drop start keys′) → Stands numbers ends ws positions′ keys′ t (firstState start answered written tally weight) × Chooses m numbers ends ws positions′ t
+        × Fitted A B (firstState start answered written tally weight)
+    stands-first weight carried = (
       record {
-        row = b .asked .row;
         few = b .asked .few;
         some = b .asked .some;
-        holds = subst (λ x. Holds numbers ends positions′ keys′ start x) (sym (h .runs-are)) h;
+        holds = held;
         rising = rising;
+        in-play = record { row = b .asked .row; sum = carried ∙ row-plays numbers ends positions′ keys′ start (b .asked .few) held ws };
         bin = let e = past-is in omega arith;
         allowed = b .asked .allowed;
       },
@@ -77,10 +97,10 @@ module _ (numbers ends ws firsts : List ℕ) (m t : ℕ) (positions keys A B : L
     chosen-first : askedRuns numbers ends ws m ≡ chosenAt ws m numbers positions′ ends
     chosen-first = ap (weighted ws) (sym (ap (chosen m) (h .runs-are) ∙ standing-chosen m (runs numbers ends)))
 
-    pub comes-first : (A′ B′ : List ℕ) (r : End) → Finishes (chosenAt ws m numbers positions′ ends) t (firstState start answered written tally) A B A′ B′ r
+    pub comes-first : (weight : ℕ) (A′ B′ : List ℕ) (r : End) → Finishes (chosenAt ws m numbers positions′ ends) t (firstState start answered written tally weight) A B A′ B′ r
         → ComesTo numbers ends ws m t answered written tally A B A′ B′ r
     unfolding goesOn countsOf countsFrom wholeWalk
-    comes-first A′ B′ r f =
+    comes-first weight A′ B′ r f =
         record {
           left-then = f .left;
           as-asked = λ allowance l.

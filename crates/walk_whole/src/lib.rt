@@ -1,4 +1,5 @@
-// The walk over chosen runs from its beginning to its end (docs/SPECIFICATION.md, 'The walk'): each of them at its first bin, then the rounds.
+// The walk over chosen runs from its beginning to its end (docs/SPECIFICATION.md, 'The walk'): each of them at its first bin, the weight in play then summed once,
+// then the rounds.
 ghost use Rattle.walk_whole.specs.Whole.{Asked, Begins, ComesTo};
 use walk_rounds::End;
 use walk_write::State;
@@ -25,6 +26,7 @@ fn whole_walk(
     ensures { λ r. ⌜ ComesTo (now (numbers .entry)) (now (ends .entry)) (now (weights .entry)) chosen threshold answered written tally (now (answers .entry)) (now (certificate .entry)) (now (answers .exit)) (now (certificate .exit)) r ⌝ }
 {
     let start = walk_begin::begin(numbers, ends, firsts, chosen, positions, keys);
+    let weight = walk_keys::row_weight(keys, start, weights);
     walk_rounds::all_rounds(
         numbers,
         ends,
@@ -42,6 +44,7 @@ fn whole_walk(
             parts: 0,
             bytes: written,
             tally: tally,
+            weight: weight,
         },
     )
 }

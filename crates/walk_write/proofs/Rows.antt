@@ -9,11 +9,11 @@ use mathlib.Core.Bool.{Bool, true, false}
 use mathlib.Core.List.{List, [], _∷_, List·Memᴰ, List·Memᴰ·head, List·Memᴰ·tail}
 use mathlib.Core.Logic.{⊎-elim}
 use mathlib.Core.Path.{_≡_, refl, sym, ap, _∙_}
-use native.Mathlib.Nat.{zero-mul}
+use native.Mathlib.Nat.{zero-mul, one-mul}
 use native.Mathlib.Omega.{arith}
 use Rattle.model.specs.Plain.{count}
 use Rattle.model.specs.Runs.{Run, pastBin, total, one, weightOf, weightOfAll, mask, names, mostRuns, maskBits}
-use Rattle.model.specs.Walk.{head, enoughHead}
+use Rattle.model.specs.Walk.{head, enoughHead, weightInPlay}
 use Rattle.model.proofs.Count.{total-eq, total-zero}
 use Rattle.model.proofs.Heads.{Heads, atMost, at-most-past, enough-first}
 use Rattle.model.proofs.Masks.{Ascending, mask-under, names-mask}
@@ -232,6 +232,23 @@ module _ (rs : List Run) (labels : Ascending 0 rs) (small : (r : Run) → List·
         keyed-none (λ k. one (leb (k / 256) h) * keyWeight ws k) r x
         ∙ sym (ap (λ y. y * r .weight) (ap one (lt-leb (head r) h (omega arith)) ∙ one-false) ∙ zero-mul (r .weight)))
         (lt-or-le (head r) pastBin)
+
+    -- the runs of the row are those in play
+    pub row-in-play : sumOf (keyWeight ws) row ≡ weightInPlay rs
+    unfolding weightOf keyWeight
+    row-in-play = order .same (keyWeight ws) ∙ total-eq _ _ rs each
+      where
+        each : (r : Run) → List·Memᴰ r rs → keyed (keyWeight ws) r ≡ one (ltb (head r) pastBin) * r .weight
+        each r m =
+            let s = small r m in
+            ⊎-elim
+            (λ (x : head r < pastBin).
+            keyed-some (keyWeight ws) r x
+            ∙ (ap (λ l. getD ws l 1) (key-label r (omega arith))
+            ∙ (sym (weighs r m) ∙ sym (ap (λ y. y * r .weight) (ap one (lt-ltb (head r) pastBin x) ∙ one-true) ∙ one-mul (r .weight)))))
+            (λ (x : pastBin ≤ head r).
+            keyed-none (keyWeight ws) r x ∙ sym (ap (λ y. y * r .weight) (ap one (le-ltb (head r) pastBin x) ∙ one-false) ∙ zero-mul (r .weight)))
+            (lt-or-le (head r) pastBin)
 
     row-weight : (h : ℕ) → h < pastBin → rowWeight ws h row ≡ atMost h rs
     unfolding rowWeight atMost weightOf

@@ -24,7 +24,7 @@ use Rattle.walk_write.specs.declared.Wrote.the-variants as wrote′
 
 -- the state after a gap
 abbrev pub afterGap : State → ℕ → State
-afterGap w bytes = record { floor = w .floor; start = w .start; answers = w .answers; parts = w .parts + 1; bytes = bytes; tally = w .tally }
+afterGap w bytes = record { floor = w .floor; start = w .start; answers = w .answers; parts = w .parts + 1; bytes = bytes; tally = w .tally; weight = w .weight }
 
 pub gap-on : (w : State) (B B′ : List ℕ) (last named bytes : ℕ) → w .bytes ≤ length B → w .parts ≤ w .bytes
     → Next bytes ≡ storedResult B (w .bytes) (gap (w .floor) last named) → B′ ≡ stored B (w .bytes) (gap (w .floor) last named)
@@ -42,7 +42,7 @@ gap-on w B B′ last named bytes h p e f =
     let b₁₉ : w .bytes + 19 ≡ bytes = omega arith in
     let k : B′ ≡ placed B (w .bytes) (encodePart (gap (w .floor) last named)) = f ∙ stored-fits B (w .bytes) (gap (w .floor) last named) q in
     let n = ap length f ∙ stored-length B (w .bytes) (gap (w .floor) last named) in (
-      record { size = n; floor = refl; start = refl; answers = refl; tally = refl; written = omega arith; parts = omega arith },
+      record { size = n; floor = refl; start = refl; answers = refl; tally = refl; weight = refl; written = omega arith; parts = omega arith },
       λ allowance A es.
           onward-gap allowance (countsOf allowance w) A B (w .floor) last named es (omega arith)
           ∙ (λ i. onward allowance (record { answers = w .answers; parts = w .parts + 1; bytes = b₁₉ i; doublings = allowance - undoubled (w .tally); halvings = halvedIn (w .tally) }) A (sym k i) es),
@@ -77,7 +77,7 @@ no-gap-events f v named h = rw (le-ltb f v h, gapEvents)
 pub no-gap : (w : State) (B : List ℕ) (v named : ℕ) → w .bytes ≤ length B → w .parts ≤ w .bytes → v ≤ w .floor
     → Writes (gapEvents (w .floor) v named) w B B (wrote′.On w)
 no-gap w B v named h p q = (
-  record { size = refl; floor = refl; start = refl; answers = refl; tally = refl; written = h; parts = p },
+  record { size = refl; floor = refl; start = refl; answers = refl; tally = refl; weight = refl; written = h; parts = p },
   λ allowance A es. ap (λ x. goesOn allowance w A B (x ++ es)) (no-gap-events (w .floor) v named q),
 )
 
@@ -88,7 +88,7 @@ some-gap w B B′ v named r q h = subst (λ x. Writes x w B B′ r) (sym (gap-ev
 -- ---- an answer
 
 abbrev pub afterAnswer : State → ℕ → State
-afterAnswer w bytes = record { floor = w .floor; start = w .start; answers = w .answers + 1; parts = w .parts + 1; bytes = bytes; tally = w .tally }
+afterAnswer w bytes = record { floor = w .floor; start = w .start; answers = w .answers + 1; parts = w .parts + 1; bytes = bytes; tally = w .tally; weight = w .weight }
 
 pub answer-on : (w : State) (A B B′ : List ℕ) (named bytes : ℕ) → Fitted A B w → w .answers ≢ length A
     → Next bytes ≡ storedResult B (w .bytes) (answer (w .floor) named) → B′ ≡ stored B (w .bytes) (answer (w .floor) named)
@@ -110,6 +110,7 @@ answer-on w A B B′ named bytes h x e f =
     let n = ap length f ∙ stored-length B (w .bytes) (answer (w .floor) named) in
     let m = length-set A (w .answers) (w .floor) in (
       record { answered = omega arith; written = omega arith; parts = omega arith },
+      refl,
       refl,
       refl,
       refl,

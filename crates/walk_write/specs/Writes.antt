@@ -42,6 +42,7 @@ pub record Grown (w : State) (certificate : List ℕ) (w′ : State) (certificat
   pub start : w′ .start ≡ w .start
   pub answers : w′ .answers ≡ w .answers
   pub tally : w′ .tally ≡ w .tally
+  pub weight : w′ .weight ≡ w .weight
   pub written : w′ .bytes ≤ length certificate′
   pub parts : w′ .parts ≤ w′ .bytes
 
@@ -61,7 +62,7 @@ gapEvents floor v named = elim (ltb floor v) [ true ↦ wrote (gap floor (v - 1)
 -- an answer is written, or a buffer is full
 abbrev pub Answers : State → ℕ → List ℕ → List ℕ → List ℕ → List ℕ → Answered → Type 0
 Answers w named answers certificate answers′ certificate′ (answered′.On w′) =
-    Fitted answers′ certificate′ w′ × (w′ .floor ≡ w .floor) × (w′ .start ≡ w .start) × (w′ .tally ≡ w .tally)
+    Fitted answers′ certificate′ w′ × (w′ .floor ≡ w .floor) × (w′ .start ≡ w .start) × (w′ .tally ≡ w .tally) × (w′ .weight ≡ w .weight)
     × ((allowance : ℕ) (es : List Event) → goesOn allowance w answers certificate (wrote (answer (w .floor) named) ∷ es) ≡ goesOn allowance w′ answers′ certificate′ es)
 Answers w named answers certificate answers′ certificate′ (answered′.Full x) =
     (0 < x)

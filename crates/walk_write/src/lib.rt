@@ -7,7 +7,7 @@ ghost use Rattle.model.specs.Walk.{wrote};
 ghost use Rattle.walk_write.specs.Writes.{LastReady, LastGap, Fitted, Writes, gapEvents, Answers};
 use field_write::Written;
 
-// Where a walk stands: the floor, where the row of keys starts, what is written, and the tally of its probes (walk_tally).
+// Where a walk stands: the floor, where the row of keys starts, what is written, the tally of its probes (walk_tally), and the weight still in play (walk_weight).
 pub struct State {
     pub floor: u32,
     pub start: usize,
@@ -15,6 +15,7 @@ pub struct State {
     pub parts: usize,
     pub bytes: usize,
     pub tally: u64,
+    pub weight: usize,
 }
 
 // A part is written, or does not fit.
@@ -52,6 +53,7 @@ fn gap_to(certificate: &mut [u8], w: State, last: u32, named: u64) -> Wrote
         parts: w.parts + 1,
         bytes: bytes,
         tally: w.tally,
+        weight: w.weight,
     })
 }
 
@@ -99,5 +101,6 @@ pub fn write_answer(answers: &mut [u32], certificate: &mut [u8], w: State, named
         parts: w.parts + 1,
         bytes: bytes,
         tally: w.tally,
+        weight: w.weight,
     })
 }

@@ -16,6 +16,10 @@ weightFrom weights m i (suc n) = bit m i * getD weights i 1 + weightFrom weights
 unfoldable pub namedWeight : List ℕ → ℕ → ℕ
 namedWeight weights m = weightFrom weights m 0 maskBits
 
+-- where the row has weights, run i has one
+pub record HasWeight (i : ℕ) (weights : List ℕ) : Type 0 where
+  pub within : 0 < length weights → i < length weights
+
 -- where the row has weights, there is one for each run that the mask names
 pub record Weighs (m : ℕ) (weights : List ℕ) : Type 0 where
   pub few : length weights ≤ mostRuns

@@ -2,10 +2,10 @@
 ghost use mathlib.Core.Path.{_≡_};
 ghost use Prim.Native.Nat.{_^_, _≤_, _<_};
 ghost use lib.Bits.{bitAnd};
-ghost use lib.ListN.{length};
+ghost use lib.ListN.{length, getD};
 ghost use Rattle.model.specs.Refusals.{sumOfWeights};
 ghost use Rattle.model.specs.Runs.{mostRuns};
-ghost use Rattle.weights.specs.Named.{namedWeight, Weighs, Among, Fewer};
+ghost use Rattle.weights.specs.Named.{namedWeight, HasWeight, Weighs, Among, Fewer};
 
 // Half of the most runs. Of the runs that a part names and the others, the fewer are never more.
 const HALF: u32 = 32;
@@ -22,6 +22,17 @@ pub fn sum(weights: &[u32]) -> usize
         i += 1;
     }
     total
+}
+
+// What run `i` weighs: 1 where the row has no weights.
+pub fn weight_at(weights: &[u32], i: usize) -> usize
+    requires { ⌜ HasWeight i (now weights) ⌝ }
+    ensures { λ r. ⌜ r ≡ getD (now (weights .entry)) i 1 ⌝ }
+{
+    if weights.len() == 0 {
+        return 1;
+    }
+    arith::usize_of_u32(weights[i])
 }
 
 // What the runs that the mask names weigh, each of which has a weight in the row.

@@ -6,7 +6,7 @@ use native.Mathlib.Omega.{arith}
 use Rattle.walk_keys.specs.Row.{belowCount}
 use Rattle.walk_write.specs.Writes.{Writes, gapEvents}
 use Rattle.walk_write.specs.declared.Wrote.the-variants.{On}
-use Rattle.walk_advance.proofs.Advancing.{search-ready, named-small, gap-stops, searches-stop, stands-there, then-settles}
+use Rattle.walk_advance.proofs.Advancing.{search-ready, named-small, gap-stops, x-in-play, searches-stop, stands-there, then-settles}
 use Rattle.walk_settle.proofs.Passing.{front-asks}
 use Rattle.walk_state.specs.Moves.{SearchReady}
 use Rattle.walk_searches.specs.Searches.{SearchedRuns}
@@ -118,7 +118,14 @@ search-runs-requires : tie.Need-search-runs-requires
 search-runs-requires c κs =
     let x = c .before .before .before .before .before in
     let f = front-of x in
-    (ready f, subst (λ y. undoubled y < 4294967296) (sym (gap-on x .0 .tally)) (start-of f .pre .0 .allowed))
+    let s = start-of f in
+    let a = s .args in (
+      ready f,
+      subst (λ y. undoubled y < 4294967296) (sym (gap-on x .0 .tally)) (s .pre .0 .allowed),
+      x-in-play (a .numbers .now) (a .ends .now) (a .weights .now) (a .positions .now) (a .keys .now) (a .answers .now) (a .certificate .now) (a .chosen) (a .threshold) (a .v) (a .w)
+          (f .front .result .count) (f .front .result .named) (s .pre .0) (s .pre .1) (s .pre .2) (s .pre .3) (counts f) (f .front .ensures .1)
+          (x .x .given .0 .0) (gap-of x .gap-before .last .0) (gap-on x),
+    )
 
 enum-known-tally : tie.Need-enum-known-tally
 enum-known-tally c = search needs
@@ -128,14 +135,14 @@ spent-on : (c : tie.After-tally)
     → (let u = c .before .before .before .before .before .before in
     let x = written-of u in
     let a = start-of (front-of x) .args in
-    SearchedRuns (a .numbers .now) (a .ends .now) (runsAt 0 (a .numbers .now) (a .positions .now) (a .ends .now)) (a .v) (x .x .given .0 .0 .tally)
-    (u .search-runs .last .1 .1 .0) (u .search-runs .last .1 .1 .1 .0) (moved.Spent (c .tally .given .0 .0)))
+    SearchedRuns (a .numbers .now) (a .ends .now) (a .weights .now) (runsAt 0 (a .numbers .now) (a .positions .now) (a .ends .now)) (a .v) (x .x .given .0 .0 .tally)
+    (u .search-runs .last .1 .1 .1 .0) (u .search-runs .last .1 .1 .1 .1 .0) (moved.Spent (c .tally .given .0 .0)))
 spent-on c =
     let u = c .before .before .before .before .before .before in
     let x = written-of u in
     let a = start-of (front-of x) .args in
-    subst (λ y. SearchedRuns (a .numbers .now) (a .ends .now) (runsAt 0 (a .numbers .now) (a .positions .now) (a .ends .now)) (a .v) (x .x .given .0 .0 .tally)
-    (u .search-runs .last .1 .1 .0) (u .search-runs .last .1 .1 .1 .0) y) (c .tally .given .1) (u .search-runs .ensures)
+    subst (λ y. SearchedRuns (a .numbers .now) (a .ends .now) (a .weights .now) (runsAt 0 (a .numbers .now) (a .positions .now) (a .ends .now)) (a .v) (x .x .given .0 .0 .tally)
+    (u .search-runs .last .1 .1 .1 .0) (u .search-runs .last .1 .1 .1 .1 .0) y) (c .tally .given .1) (u .search-runs .ensures)
 
 enum-known-start : tie.Need-enum-known-start
 enum-known-start c = search needs
@@ -145,14 +152,14 @@ searched-on : (c : tie.After-start)
     → (let u = c .before .before .before .before .before .before in
     let x = written-of u in
     let a = start-of (front-of x) .args in
-    SearchedRuns (a .numbers .now) (a .ends .now) (runsAt 0 (a .numbers .now) (a .positions .now) (a .ends .now)) (a .v) (x .x .given .0 .0 .tally)
-    (u .search-runs .last .1 .1 .0) (u .search-runs .last .1 .1 .1 .0) (moved.On (c .start .given .0 .0) (c .start .given .0 .1 .0)))
+    SearchedRuns (a .numbers .now) (a .ends .now) (a .weights .now) (runsAt 0 (a .numbers .now) (a .positions .now) (a .ends .now)) (a .v) (x .x .given .0 .0 .tally)
+    (u .search-runs .last .1 .1 .1 .0) (u .search-runs .last .1 .1 .1 .1 .0) (moved.On (c .start .given .0 .0) (c .start .given .0 .1 .0) (c .start .given .0 .1 .1 .0)))
 searched-on c =
     let u = c .before .before .before .before .before .before in
     let x = written-of u in
     let a = start-of (front-of x) .args in
-    subst (λ y. SearchedRuns (a .numbers .now) (a .ends .now) (runsAt 0 (a .numbers .now) (a .positions .now) (a .ends .now)) (a .v) (x .x .given .0 .0 .tally)
-    (u .search-runs .last .1 .1 .0) (u .search-runs .last .1 .1 .1 .0) y) (c .start .given .1) (u .search-runs .ensures)
+    subst (λ y. SearchedRuns (a .numbers .now) (a .ends .now) (a .weights .now) (runsAt 0 (a .numbers .now) (a .positions .now) (a .ends .now)) (a .v) (x .x .given .0 .0 .tally)
+    (u .search-runs .last .1 .1 .1 .0) (u .search-runs .last .1 .1 .1 .1 .0) y) (c .start .given .1) (u .search-runs .ensures)
 
 settle-requires : tie.Need-settle-requires
 settle-requires c κs =
@@ -165,8 +172,8 @@ settle-requires c κs =
     let a = s .args in
     stands-there (a .numbers .now) (a .ends .now) (a .weights .now) (a .positions .now) (a .keys .now) (a .answers .now) (a .certificate .now) (a .chosen) (a .threshold) (a .v) (a .w)
     (f .front .result .count) (f .front .result .named) (s .pre .0) (s .pre .1) (s .pre .2) (s .pre .3) (counts f) (f .front .ensures .1)
-    (x .x .given .0 .0) (g .gap-before .last .0) (gap-on x) (u .search-runs .last .1 .1 .0) (u .search-runs .last .1 .1 .1 .0)
-    (m .start .given .0 .0) (m .start .given .0 .1 .0) (searched-on m)
+    (x .x .given .0 .0) (g .gap-before .last .0) (gap-on x) (u .search-runs .last .1 .1 .1 .0) (u .search-runs .last .1 .1 .1 .1 .0)
+    (m .start .given .0 .0) (m .start .given .0 .1 .0) (m .start .given .0 .1 .1 .0) (searched-on m)
 
 same-length-3 : tie.Need-same-length-3
 same-length-3 c = search needs
@@ -188,7 +195,7 @@ returns-2 c =
     let a = s .args in
     searches-stop (a .numbers .now) (a .ends .now) (a .weights .now) (a .positions .now) (a .keys .now) (a .answers .now) (a .certificate .now) (a .chosen) (a .threshold) (a .v) (a .w)
     (f .front .result .count) (f .front .result .named) (s .pre .0) (s .pre .1) (s .pre .2) (s .pre .3) (counts f) (f .front .ensures .1)
-    (x .x .given .0 .0) (g .gap-before .last .0) (gap-on x) (u .search-runs .last .1 .1 .0) (u .search-runs .last .1 .1 .1 .0) (p .tally .given .0 .0)
+    (x .x .given .0 .0) (g .gap-before .last .0) (gap-on x) (u .search-runs .last .1 .1 .1 .0) (u .search-runs .last .1 .1 .1 .1 .0) (p .tally .given .0 .0)
     (spent-on p)
 
 same-length-6 : tie.Need-same-length-6
@@ -219,8 +226,8 @@ returns-3 c =
     let a = s .args in
     then-settles (a .numbers .now) (a .ends .now) (a .weights .now) (a .positions .now) (a .keys .now) (a .answers .now) (a .certificate .now) (a .chosen) (a .threshold) (a .v) (a .w)
     (f .front .result .count) (f .front .result .named) (s .pre .0) (s .pre .1) (s .pre .2) (s .pre .3) (counts f) (f .front .ensures .1)
-    (x .x .given .0 .0) (g .gap-before .last .0) (gap-on x) (u .search-runs .last .1 .1 .0) (u .search-runs .last .1 .1 .1 .0)
-    (m .start .given .0 .0) (m .start .given .0 .1 .0) (searched-on m)
+    (x .x .given .0 .0) (g .gap-before .last .0) (gap-on x) (u .search-runs .last .1 .1 .1 .0) (u .search-runs .last .1 .1 .1 .1 .0)
+    (m .start .given .0 .0) (m .start .given .0 .1 .0) (m .start .given .0 .1 .1 .0) (searched-on m)
     (e .settle .last .1 .1 .1 .1 .0) (e .settle .last .1 .1 .1 .1 .1 .0) (e .settle .last .1 .1 .1 .1 .1 .1 .0) (e .settle .last .1 .1 .1 .1 .1 .1 .1 .0)
     (e .settle .result) (e .settle .ensures)
 

@@ -1,49 +1,22 @@
--- `round` ends with the last gap where the runs with a head weigh too little, and goes on from the head up to which they weigh enough otherwise. Assumes nothing.
-use lib.ListN.{drop}
-use mathlib.Core.Path.{_≡_, subst}
+-- `round` ends with the last gap where the weight that the state carries is too little, and goes on from the head up to which the runs weigh enough otherwise. Assumes
+-- nothing.
+use Prim.Native.Nat.{_≤_}
 use native.Mathlib.Omega.{arith}
-use Rattle.model.specs.Runs.{pastBin}
-use Rattle.walk_keys.specs.Row.{reachedHead, Reaches}
-use Rattle.walk_keys.specs.declared.Reached.the-variants.{Head, Past}
 use Rattle.walk_round.proofs.Ending.{reach-ready, last-ready, ends-there, head-fits, advances}
 use borrow.Author.Needs.{needs}
 use Rattle.walk_round.proofs.round.Statement.{statement}
 use Rattle.walk_round.proofs.round.Tie as tie
 
--- the arguments
-abbrev start-of : tie.After-reached-head → tie.Start
-start-of h = h .before .before .before .before .before .before .before .before .before
+-- the places before: the arguments, where the walk ends and where it goes on
+abbrev end-of : tie.Then1 → tie.Start
+end-of c = c .before .before .before .before .before .before .before .before .before
 
-reached-head-requires : tie.Need-reached-head-requires
-reached-head-requires c κs =
-    let s = c .before .before .before .before .before .before .before .before in
-    let a = s .args in
-    let r = reach-ready (a .numbers .now) (a .ends .now) (a .weights .now) (a .positions .now) (a .keys .now) (a .answers .now) (a .certificate .now) (a .chosen) (a .threshold) (a .w)
-    (s .pre .0) (s .pre .1) (s .pre .2) in
-    (omega (arith, r .0), r .1, r .2)
-
-enum-known-v : tie.Need-enum-known-v
-enum-known-v c = search needs
-
-enum-told : tie.Need-enum-told
-enum-told c = search needs
-
--- what was reached
-past : (c : tie.After-enum-told) → (let a = start-of (c .before .before) .args in reachedHead (a .weights .now) (a .threshold) (drop (a .w .start) (a .keys .now)) ≡ pastBin)
-past c =
-    let h = c .before .before in
-    let a = start-of h .args in
-    subst (Reaches (a .weights .now) (a .threshold) (drop (a .w .start) (a .keys .now))) (c .enum-told .given .1) (h .reached-head .ensures)
-
-at-head : (c : tie.After-v) → (let a = start-of (c .before .before) .args in Reaches (a .weights .now) (a .threshold) (drop (a .w .start) (a .keys .now)) (Head (c .v .given .0 .0)))
-at-head c =
-    let h = c .before .before in
-    let a = start-of h .args in
-    subst (Reaches (a .weights .now) (a .threshold) (drop (a .w .start) (a .keys .now))) (c .v .given .1) (h .reached-head .ensures)
+abbrev start-of : tie.Else1 → tie.Start
+start-of c = c .before .before .before .before .before .before .before .before .before
 
 last-gap-requires : tie.Need-last-gap-requires
 last-gap-requires c κs =
-    let s = start-of (c .before .before .before .before) in
+    let s = end-of (c .before .before) in
     let a = s .args in
     last-ready (a .numbers .now) (a .ends .now) (a .weights .now) (a .positions .now) (a .keys .now) (a .answers .now) (a .certificate .now) (a .chosen) (a .threshold) (a .w)
     (s .pre .0) (s .pre .1) (s .pre .2)
@@ -56,32 +29,45 @@ same-length-2 c = search needs
 
 returns : tie.Need-returns
 returns c =
-    let s = start-of (c .before .before .before .before .before .before .before) in
-    let a = s .args in
     let g = c .before .before in
+    let t = g .before .before .before in
+    let s = end-of t in
+    let a = s .args in
     ends-there (a .numbers .now) (a .ends .now) (a .weights .now) (a .positions .now) (a .keys .now) (a .answers .now) (a .certificate .now) (a .chosen) (a .threshold) (a .w)
-    (s .pre .0) (s .pre .1) (s .pre .2)
-    (g .last-gap .last .1 .1 .0) (g .last-gap .result) (past (c .before .before .before .before .before)) (g .last-gap .ensures)
+    (s .pre .0) (s .pre .1) (s .pre .2) (g .last-gap .last .1 .1 .0) (g .last-gap .result) (t .if1 .taken) (g .last-gap .ensures)
+
+-- enough is in play
+enough : (c : tie.Else1) → (let a = start-of c .args in a .threshold ≤ a .w .weight)
+enough c = omega (arith, c .if1 .left)
+
+reached-head-requires : tie.Need-reached-head-requires
+reached-head-requires c κs =
+    let e = c .before in
+    let s = start-of e in
+    let a = s .args in
+    reach-ready (a .numbers .now) (a .ends .now) (a .weights .now) (a .positions .now) (a .keys .now) (a .answers .now) (a .certificate .now) (a .chosen) (a .threshold) (a .w)
+    (s .pre .0) (s .pre .1) (s .pre .2) (enough e)
 
 cast-advance : tie.Need-cast-advance
 cast-advance c =
-    let x = c .before .before .before .before .before in
-    let s = start-of (x .before .before) in
+    let h = c .before .before .before .before in
+    let s = start-of (h .before .before) in
     let a = s .args in
     let b = head-fits (a .numbers .now) (a .ends .now) (a .weights .now) (a .positions .now) (a .keys .now) (a .answers .now) (a .certificate .now) (a .chosen) (a .threshold) (a .w)
-    (s .pre .0) (s .pre .1) (s .pre .2) (x .v .given .0 .0) (at-head x) in
+    (s .pre .0) (s .pre .1) (s .pre .2) (h .reached-head .result) (h .reached-head .ensures) in
     record { fits = omega arith }
 
 advance-requires : tie.Need-advance-requires
 advance-requires c κs =
-    let x = c .before .before .before .before .before in
-    let s = start-of (x .before .before) in
+    let h = c .before .before .before .before in
+    let e = h .before .before in
+    let s = start-of e in
     let a = s .args in (
       s .pre .0,
       s .pre .1,
       s .pre .2,
       advances (a .numbers .now) (a .ends .now) (a .weights .now) (a .positions .now) (a .keys .now) (a .answers .now) (a .certificate .now) (a .chosen) (a .threshold) (a .w)
-          (s .pre .0) (s .pre .1) (s .pre .2) (x .v .given .0 .0) (at-head x),
+          (s .pre .0) (s .pre .1) (s .pre .2) (h .reached-head .result) (h .reached-head .ensures) (enough e),
     )
 
 same-length-3 : tie.Need-same-length-3
@@ -103,13 +89,11 @@ pub round-spec : {M : Type 1} → statement M
 round-spec =
     tie.close
     (tie.spec
-    reached-head-requires
-    enum-known-v
-    enum-told
     last-gap-requires
     same-length
     same-length-2
     returns
+    reached-head-requires
     cast-advance
     advance-requires
     same-length-3

@@ -2,7 +2,10 @@
 use native.Mathlib.Omega.{arith}
 use Prim.Native.Nat.{_+_}
 use Rattle.model.specs.Runs.{lastBin}
+use lib.Count.{ones}
+use mathlib.Core.Path.{_≡_}
 use Rattle.walk_state.specs.Moves.{StepReady}
+use Rattle.walk_state.specs.State.{InPlay}
 use Rattle.walk_settle.proofs.Passing.{step-ready, passed-on, passed-last}
 use borrow.Author.Needs.{needs}
 use Rattle.walk_settle.proofs.pass.Statement.{statement}
@@ -17,7 +20,8 @@ returns c =
 
 ready : (c : tie.After-struct-known2)
     → (let a = c .before .before .before .before .before .before .before .before .before .before .args in
-    StepReady (a .numbers .now) (a .ends .now) (a .positions .now) (a .keys .now) (a .w .start + a .number) (a .named))
+    StepReady (a .numbers .now) (a .ends .now) (a .positions .now) (a .keys .now) (a .w .start + a .number) (a .named) × (a .number ≡ ones (a .named))
+    × InPlay (a .numbers .now) (a .ends .now) (a .weights .now) (a .positions .now) (a .w .weight))
 ready c =
     let s = c .before .before .before .before .before .before .before .before .before .before in
     let a = s .args in
@@ -25,9 +29,9 @@ ready c =
 
 add-step-runs : tie.Need-add-step-runs
 add-step-runs c =
-    let r = ready c .lacks .starts in
-    let k = ready c .lacks .size in
-    let f = ready c .few in
+    let r = ready c .0 .lacks .starts in
+    let k = ready c .0 .lacks .size in
+    let f = ready c .0 .few in
     omega arith
 
 step-runs-requires : tie.Need-step-runs-requires
@@ -50,7 +54,7 @@ returns-2 c =
     let s = e .before .before .before .before .before .before .before in
     let a = s .args in
     passed-on (a .numbers .now) (a .ends .now) (a .weights .now) (a .positions .now) (a .keys .now) (a .threshold) (a .w) (a .number) (a .named) (s .pre .0) (s .pre .1)
-    (u .step-runs .last .1 .1 .0) (u .step-runs .last .1 .1 .1 .0) (u .step-runs .result) (e .if1 .left) (u .step-runs .ensures)
+    (u .step-runs .last .1 .1 .1 .0) (u .step-runs .last .1 .1 .1 .1 .0) (u .step-runs .result .start) (u .step-runs .result .weight) (e .if1 .left) (u .step-runs .ensures)
 
 pub pass-spec : {M : Type 1} → statement M
 pass-spec =
