@@ -304,8 +304,9 @@ void quorum_query(const uint32_t *numbers, size_t numbers_len,
  *
  * Cost: as quorum_query, and in each round the weights of the runs that stand
  * lowest are added up until they are enough, and then those of the runs that hold
- * the bin so found. The certificate has the fewest parts of all that are true for
- * these weights.
+ * the bin so found. What the runs that have a bin left weigh, by which the walk
+ * ends, is carried from round to round and not added up anew. The certificate has
+ * the fewest parts of all that are true for these weights.
  *
  * Example, after the one above: the first run counts for three and a weight of three
  * is wanted, so that it is enough by itself, and all of its bins are answers.

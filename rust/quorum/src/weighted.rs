@@ -33,7 +33,9 @@ use crate::{checked, ffi, queried, Checked, Counts, Refusal, Stopped};
 /// then, in a run whose number of bins has b binary digits, at most 2 × d × b probes,
 /// d being the parts of any certificate that is true for these weights. In each
 /// round the weights of the runs that stand lowest are added up until they are
-/// enough, and then those of the runs that hold the bin so found.
+/// enough, and then those of the runs that hold the bin so found. What the runs that
+/// have a bin left weigh, by which the walk ends, is carried from round to round and
+/// not added up anew.
 ///
 /// # Example
 ///
