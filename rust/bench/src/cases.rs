@@ -26,7 +26,7 @@ impl fmt::Display for Case {
 }
 
 impl Case {
-    /// The input with so many numbers.
+    /// The input with so many numbers, or as many as make equal runs.
     pub fn input(&self, count: usize) -> Input {
         (self.input)(self.runs, count)
     }
@@ -131,10 +131,10 @@ const ASKED_TOGETHER: [Shape; 4] = [
 ];
 
 const WEIGHTED: [Shape; 5] = [
-    ("dense", inputs::dense, &[8, 64]),
-    ("sparse", inputs::sparse, &[8, 64]),
-    ("nearly disjoint", inputs::nearly_disjoint, &[8, 64]),
-    ("blocks", inputs::blocks, &[8, 64]),
+    ("dense", inputs::dense, &[8, 60, 64]),
+    ("sparse", inputs::sparse, &[8, 60, 64]),
+    ("nearly disjoint", inputs::nearly_disjoint, &[8, 60, 64]),
+    ("blocks", inputs::blocks, &[8, 60, 64]),
     ("skewed", inputs::skewed, &[2]),
 ];
 
@@ -171,7 +171,7 @@ pub fn half_zeros() -> Vec<HalfZeros> {
 pub fn weighted() -> Vec<Weighted> {
     let kinds = [Weights::Ones, Weights::Eights, Weights::Any];
     let with_weights = |case: Case| {
-        let kinds = &kinds[..if case.runs == 64 { 3 } else { 1 }];
+        let kinds = &kinds[..if case.runs < 60 { 1 } else { 3 }];
         kinds.iter().map(move |&weights| Weighted { case, weights })
     };
     let cases = cases(&WEIGHTED, all_thresholds).into_iter();
@@ -290,7 +290,7 @@ mod tests {
         let all = select("").unwrap();
         let counts = [&all.queried, &all.checked, &all.asked_together].map(Vec::len);
         assert_eq!(counts, [46, 12, 4]);
-        assert_eq!((all.half_zeros.len(), all.weighted.len()), (4, 66));
+        assert_eq!((all.half_zeros.len(), all.weighted.len()), (4, 114));
         assert_eq!(
             names(&all.queried)[..3],
             ["dense k=2 t=1", "dense k=2 t=2", "dense k=8 t=1"]
@@ -342,6 +342,19 @@ mod tests {
         );
         assert_eq!(names_of.len(), 12);
         assert!(weights.queried.is_empty() && weights.read.is_empty());
+        let sixty = select("k=60").unwrap();
+        let names_of = names(&sixty.weighted);
+        assert_eq!(
+            names_of[9..13],
+            [
+                "weights all 1, dense k=60 wanted=60",
+                "weights 1 and 8, dense k=60 wanted=116",
+                "weights 1 to 255, dense k=60 wanted=7881",
+                "weights all 1, sparse k=60 wanted=1"
+            ]
+        );
+        assert_eq!(names_of.len(), 48);
+        assert!(sixty.queried.is_empty() && sixty.read.is_empty());
         let few = select("weights all 1, dense k=8").unwrap();
         assert_eq!(few.weighted.len(), 4);
         let read = select("tracefile, last").unwrap();

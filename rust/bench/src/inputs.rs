@@ -3,7 +3,7 @@
 use reference::testing::{lay_out, Random};
 
 /// The numbers of an input, zeros included; without its zeros an input may have
-/// fewer.
+/// fewer, and so may one of equal runs, whose number may not divide this.
 pub const NUMBERS: usize = 1_048_576;
 
 /// Runs laid one after another.
@@ -19,6 +19,16 @@ impl Input {
         let (numbers, ends) = lay_out(&runs.into_iter().collect::<Vec<_>>());
         assert_eq!(numbers.len(), count);
         Input { numbers, ends }
+    }
+
+    /// `k` runs, each of `count / k` numbers, which `run` is told.
+    fn of_equal_runs(
+        k: usize,
+        count: usize,
+        mut run: impl FnMut(usize, usize) -> Vec<u32>,
+    ) -> Self {
+        let length = count / k;
+        Input::new((0..k).map(|i| run(i, length)), k * length)
     }
 
     /// The same runs with every number one higher, so that none begins with a 0.
@@ -59,19 +69,17 @@ pub fn dense(k: usize, count: usize) -> Input {
         }
         step
     };
-    let run = |_| rising(0, count / k, &mut step);
-    Input::new((0..k).map(run), count)
+    Input::of_equal_runs(k, count, |_, length| rising(0, length, &mut step))
 }
 
 /// Random numbers from a range 64 times as wide as there are numbers.
 pub fn sparse(k: usize, count: usize) -> Input {
     let mut random = Random(2);
     let widest = 2 * 64 * k - 1;
-    let run = |_| {
+    Input::of_equal_runs(k, count, |_, length| {
         let start = random.below(widest) as u32;
-        rising(start, count / k, || 1 + random.below(widest))
-    };
-    Input::new((0..k).map(run), count)
+        rising(start, length, || 1 + random.below(widest))
+    })
 }
 
 /// Each number of one range is in one run, or in two in one case out of
@@ -100,12 +108,10 @@ pub fn nearly_disjoint(k: usize, count: usize) -> Input {
 /// row of numbers is not in order by itself.
 pub fn blocks(k: usize, count: usize) -> Input {
     let mut random = Random(4);
-    let length = count / k;
-    let run = |i| {
+    Input::of_equal_runs(k, count, |i, length| {
         let start = (k - 1 - i) * 4 * length;
         rising(start as u32, length, || 1 + random.below(3))
-    };
-    Input::new((0..k).map(run), count)
+    })
 }
 
 /// Sparse runs of half as many numbers, each after as many zeros as it has
@@ -128,6 +134,20 @@ pub fn skewed(_: usize, count: usize) -> Input {
 mod tests {
     use super::*;
     use reference::split_runs;
+
+    /// As many numbers as are asked for, or as many as make equal runs.
+    #[test]
+    fn counts() {
+        for (k, equal) in [(8, 1_000), (60, 960), (64, 960)] {
+            for shape in [dense, sparse, blocks] {
+                let Input { numbers, ends } = shape(k, 1_000);
+                assert_eq!((numbers.len(), ends.len()), (equal, k));
+                assert!(ends.iter().zip(1..).all(|(&end, i)| end == i * ends[0]));
+            }
+            let Input { numbers, ends } = nearly_disjoint(k, 1_000);
+            assert_eq!((numbers.len(), ends.len()), (1_000, k));
+        }
+    }
 
     /// The bins are the same, and as many zeros are before them in each run.
     #[test]

@@ -19,7 +19,7 @@ Standard output has the six tables.
 
 Columns of the first five tables, of which the fifth has no t:
   case            shape of the input
-  k               number of runs
+  k               number of runs; where 60 are equally long they have 1,048,560 numbers
   t               threshold
   parts           parts of the certificate; of all certificates where there are many
                   questions

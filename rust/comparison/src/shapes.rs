@@ -33,13 +33,27 @@ pub const SHAPES: [Shape; 6] = [
 /// of them with 4294967295, some empty. In a third of all cases runs begin with
 /// unmapped marks, which are zeros: one, two or many.
 pub fn any_runs(random: &mut Random, k: usize, length: usize) -> Vec<Vec<u32>> {
+    changed_runs(random, k, length, |random, runs| match random.below(4) {
+        0 => add_last(random, runs),
+        1 => cut_some(random, runs),
+        _ => (),
+    })
+}
+
+/// Returns such runs of very different lengths, so that they end one by one.
+pub fn uneven_runs(random: &mut Random, k: usize, length: usize) -> Vec<Vec<u32>> {
+    changed_runs(random, k, length, cut_each)
+}
+
+fn changed_runs(
+    random: &mut Random,
+    k: usize,
+    length: usize,
+    change: impl FnOnce(&mut Random, &mut [Vec<u32>]),
+) -> Vec<Vec<u32>> {
     let shape = random.pick(&SHAPES);
     let mut runs = placed_runs(random, shape, k, length);
-    match random.below(4) {
-        0 => add_last(random, &mut runs),
-        1 => cut_some(random, &mut runs),
-        _ => (),
-    }
+    change(random, &mut runs);
     mark_some(random, &mut runs);
     runs
 }
@@ -161,6 +175,14 @@ fn add_last(random: &mut Random, runs: &mut [Vec<u32>]) {
         if random.one_in(2) && run.last() != Some(&M) {
             run.push(M);
         }
+    }
+}
+
+/// Shortens each run, many to a small part of it.
+fn cut_each(random: &mut Random, runs: &mut [Vec<u32>]) {
+    for run in runs {
+        let most = run.len() >> random.below(4);
+        run.truncate(random.below(most + 1));
     }
 }
 
