@@ -22,7 +22,7 @@ headOf (x ∷ s) = x
 unfoldable pub head : Run → ℕ
 head r = headOf (r .bins)
 
--- The weight still in play: what the runs that have a head weigh.
+-- The weight still in play, the customer's term: what the runs that have a head weigh.
 abbrev pub weightInPlay : List Run → ℕ
 weightInPlay rs = weightOf (λ r. ltb (head r) pastBin) rs
 

@@ -73,12 +73,12 @@ pub record Idle (chosen : ℕ) (rs : List Run) : Type 0 where
 abbrev pub chosenAt : List ℕ → ℕ → List ℕ → List ℕ → List ℕ → List Run
 chosenAt weights m numbers positions ends = weighted weights (chosen m (runsAt 0 numbers positions ends))
 
--- a weight is the one still in play, where there is a weight for each run, or none and each weighs 1
+-- a weight is the one still in play, with the runs at these positions; there is a weight for each run, or none and each weighs 1
 pub record InPlay (numbers ends weights positions : List ℕ) (weight : ℕ) : Type 0 where
   pub row : 0 < length weights → length weights ≡ length ends
   pub sum : weight ≡ weightInPlay (weighted weights (runsAt 0 numbers positions ends))
 
--- what a run no longer adds to it that was moved to a place: its weight, where it has no number left there
+-- what a run that was moved to a place no longer adds to it: its weight, where it has no number left there
 unfoldable pub lostAt : List ℕ → ℕ → ℕ → ℕ → ℕ
 lostAt weights run place end = elim (ltb place end) [ true ↦ 0 | false ↦ getD weights run 1 ]
 

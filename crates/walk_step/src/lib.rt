@@ -25,7 +25,7 @@ fn step_each(numbers: &[u32], ends: &[u32], positions: &mut [u32], movers: u64)
     }
 }
 
-// Moves each run that `movers` names, `count` of them, on by one and puts its key back. As many keys as are put back are runs with a number left.
+// Moves each run that `movers` names, `count` of them, on by one and puts its key back. As many of them have a number left as keys are put back.
 pub fn step_runs(
     numbers: &[u32],
     ends: &[u32],

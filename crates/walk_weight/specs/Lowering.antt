@@ -1,4 +1,4 @@
--- What it asks to lower the weight still in play after a step past an answer. Definitions only.
+-- What is known where the weight still in play is to be lowered after a step past an answer. Definitions only.
 use Prim.Native.Nat.{ℕ, _^_, _≤_, _<_}
 use mathlib.Core.Bool.{true}
 use mathlib.Core.List.{List, List·Memᴰ}
@@ -16,6 +16,6 @@ pub record Lowerable (numbers ends weights positions : List ℕ) (named weight :
   pub row : 0 < length weights → length weights ≡ length ends
   pub sum : weight ≡ weightIfHeads named (weighted weights (runsAt 0 numbers positions ends))
 
--- where as many have a head as a mask names, each of these has one
+-- if `kept` is `count`, each run that a mask names has a head
 pub record AllHave (numbers ends positions : List ℕ) (named count kept : ℕ) : Type 0 where
   pub each : kept ≡ count → (r : Run) → List·Memᴰ r (runsAt 0 numbers positions ends) → names named r ≡ true → head r < pastBin

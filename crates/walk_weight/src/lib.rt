@@ -42,8 +42,8 @@ fn lowered(
     weight
 }
 
-// The same where `count` runs were moved and `kept` of them have a number left: mostly all, and then nothing is lowered. So the runs are gone through at most once
-// for each run that a walk has.
+// The same where `count` runs were moved and `kept` of them have a number left: mostly all, and then nothing is lowered. So runs are gone through at most as often in
+// a walk as it has runs.
 pub fn stepped(
     numbers: &[u32],
     ends: &[u32],
