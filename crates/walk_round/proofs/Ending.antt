@@ -26,7 +26,7 @@ use Rattle.walk_settle.proofs.Choosing.{chosen-labels, chosen-within, chosen-sm
 use Rattle.walk_progress.proofs.Rounds.{gap-mask, front-in-all, round-ends}
 use Rattle.walk_write.proofs.Rows.{row-labels, row-bins, row-mask, row-weights, reached-is}
 use Rattle.walk_state.proofs.Moving.{past-is}
-use Rattle.walk_settle.proofs.Passing.{row-plays}
+use Rattle.walk_settle.proofs.Passing.{row-weight-in-play}
 use Rattle.walk_state.proofs.Choosing.{idle-in-play}
 use Rattle.walk_state.specs.State.{runsAt, chosenAt, InOrder}
 
@@ -63,7 +63,7 @@ module _ (numbers ends ws positions keys A B : List ℕ) (m t : ℕ) (w : State)
 
   pub reach-ready : t ≤ w .weight → (0 < t) × (w .start ≤ length keys) × HaveWeights ws row × (t ≤ sumOf (keyWeight ws) row)
   reach-ready q =
-      let e = row-plays numbers ends positions keys (w .start) (s .few) (s .holds) ws in
+      let e = row-weight-in-play numbers ends positions keys (w .start) (s .few) (s .holds) ws in
       let i = s .in-play .sum in (
         s .some,
         s .holds .starts,

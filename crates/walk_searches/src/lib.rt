@@ -26,14 +26,14 @@ fn search_each(
     movers: u64,
     v: u32,
     allowed: u64,
-    entering: usize,
+    initial: usize,
 ) -> Probed
-    requires { ⌜ Searchable (now numbers) (now ends) (now positions) movers v × (undoubled allowed < 4294967296) × InPlay (now numbers) (now ends) (now weights) (now positions) entering ⌝ }
+    requires { ⌜ Searchable (now numbers) (now ends) (now positions) movers v × (undoubled allowed < 4294967296) × InPlay (now numbers) (now ends) (now weights) (now positions) initial ⌝ }
     ensures { λ r. ⌜ SearchedEach (now (numbers .entry)) (now (ends .entry)) (now (weights .entry)) (runsAt 0 (now (numbers .entry)) (now (positions .entry)) (now (ends .entry))) v allowed (now (positions .exit)) r ⌝ }
 {
     let mut rest = movers;
     let mut tally = allowed;
-    let mut weight = entering;
+    let mut weight = initial;
     while 0 < rest {
         let run = mask::lowest_run(rest);
         match walk_seek::search_run(numbers, ends, weights, positions, run, v, tally, weight) {
@@ -66,17 +66,17 @@ pub fn search_runs(
     movers: u64,
     v: u32,
     allowed: u64,
-    entering: usize,
+    initial: usize,
     count: usize,
 ) -> Moved
-    requires { ⌜ SearchReady (now numbers) (now ends) (now positions) (now keys) from movers v × (undoubled allowed < 4294967296) × InPlay (now numbers) (now ends) (now weights) (now positions) entering ⌝ }
+    requires { ⌜ SearchReady (now numbers) (now ends) (now positions) (now keys) from movers v × (undoubled allowed < 4294967296) × InPlay (now numbers) (now ends) (now weights) (now positions) initial ⌝ }
     ensures { λ r. ⌜ SearchedRuns (now (numbers .entry)) (now (ends .entry)) (now (weights .entry)) (runsAt 0 (now (numbers .entry)) (now (positions .entry)) (now (ends .entry))) v allowed (now (positions .exit)) (now (keys .exit)) r ⌝ }
 {
     if movers == 0 {
         return Moved::On {
             start: from,
             tally: allowed,
-            weight: entering,
+            weight: initial,
         };
     }
     match search_each(
@@ -87,7 +87,7 @@ pub fn search_runs(
         movers,
         v,
         allowed,
-        entering,
+        initial,
     ) {
         Probed::NoneLeft(spent) => Moved::Spent(spent),
         Probed::Left { tally, weight } => {

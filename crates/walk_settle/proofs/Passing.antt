@@ -52,9 +52,9 @@ module _ (numbers ends positions keys : List ℕ) (start : ℕ) (few : length en
   front-asks = (h .starts, row-labels rs labels small (drop start keys) (h .order), row-sum rs labels small (drop start keys) (h .order))
 
   -- the runs of the row weigh what is in play
-  pub row-plays : (ws : List ℕ) → sumOf (keyWeight ws) (drop start keys) ≡ weightInPlay (weighted ws rs)
+  pub row-weight-in-play : (ws : List ℕ) → sumOf (keyWeight ws) (drop start keys) ≡ weightInPlay (weighted ws rs)
   unfolding weightedRun
-  row-plays ws =
+  row-weight-in-play ws =
       row-in-play (weighted ws rs) (weighted-ascending ws labels)
       (λ q m. let p = weighted-mem ws rs q m in let l = small (p .0) (p .1) in let e = ap (λ (x : Run). x .label) (p .2) in omega arith)
       (drop start keys) (weighted-order ws (h .order)) ws

@@ -1,5 +1,5 @@
 pub mod Choosing
 pub mod Going
+pub mod InPlay
 pub mod Moving
-pub mod Playing
 pub mod Runs

@@ -3,7 +3,7 @@
 use Prim.Native.Nat.{ℕ, _+_, _-_, _^_, _≤_, _<_}
 use lib.Count.{ones}
 use lib.ListN.{length, drop, length-drop}
-use mathlib.Core.Bool.{true, false}
+use mathlib.Core.Bool.{true}
 use mathlib.Core.List.{List, map, List·Memᴰ}
 use mathlib.Core.Logic.{⊎-elim}
 use mathlib.Core.Path.{_≡_, refl, sym, ap, _∙_, subst}
@@ -20,7 +20,7 @@ use Rattle.walk_keys.proofs.Row.{sum-one}
 use Rattle.walk_state.proofs.Choosing.{names-label}
 use Rattle.walk_state.proofs.Going.{weigh-one, step-label, step-still}
 use Rattle.walk_state.proofs.Moving.{runs-at-length, runs-at-labels, keyed-none, not-named-zero, not-named-is}
-use Rattle.walk_state.proofs.Playing.{if-heads-step}
+use Rattle.walk_state.proofs.InPlay.{if-heads-step}
 use Rattle.walk_state.specs.Moves.{stepNamed, StepReady}
 use Rattle.walk_state.specs.State.{runsAt, keyed, notNamed, Holds, InPlay, weightIfHeads}
 use Rattle.walk_weight.specs.Lowering.{Lowerable, AllHave}
@@ -87,8 +87,8 @@ module _ (numbers ends positions keys : List ℕ) (from named : ℕ) (s : StepRe
           (λ q. let e = not-named-is named (keyed (λ k. 1)) r q in let f = ap (keyed (λ k. 1)) (step-still named r q) in omega arith)
           (both (names named r))
 
-  pub all-have : (count : ℕ) → count ≡ ones named → AllHave numbers ends positions′ named count (from - start)
-  all-have count n =
+  pub all-kept : (count : ℕ) → count ≡ ones named → AllHave numbers ends positions′ named count (from - start)
+  all-kept count n =
       record {
         each = λ e r m q.
             let p = map-mem (stepNamed named) rs r (subst (λ x. List·Memᴰ r x) (h .runs-are) m) in

@@ -3,13 +3,13 @@ use Prim.Native.Nat.{ℕ, _+_, _^_, _≤_, _<_}
 use lib.ListN.{length, getD}
 use lib.Pow.{pow-pos}
 use mathlib.Core.List.{List}
-use mathlib.Core.Path.{_≡_, sym, _∙_}
+use mathlib.Core.Path.{_≡_, _∙_}
 use native.Mathlib.Omega.{arith}
 use Rattle.mask.proofs.Lowest.{cleared-here, cleared-other}
 use Rattle.model.proofs.Masks.{below-only}
-use Rattle.model.specs.Runs.{pastBin, bit, weighted}
+use Rattle.model.specs.Runs.{pastBin, bit}
 use Rattle.walk_state.proofs.Moving.{Cleared}
-use Rattle.walk_state.proofs.Playing.{if-heads-is, if-heads-on, if-heads-end}
+use Rattle.walk_state.proofs.InPlay.{if-heads-is, if-heads-on, if-heads-end}
 use Rattle.walk_state.specs.State.{runsAt, InPlay, lostAt}
 use Rattle.walk_weight.specs.Lowering.{Lowerable, AllHave}
 use Rattle.weights.specs.Named.{HasWeight}

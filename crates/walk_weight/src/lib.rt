@@ -24,13 +24,13 @@ fn lowered(
     weights: &[u32],
     positions: &[u32],
     movers: u64,
-    entering: usize,
+    initial: usize,
 ) -> usize
-    requires { ⌜ Lowerable (now numbers) (now ends) (now weights) (now positions) movers entering ⌝ }
+    requires { ⌜ Lowerable (now numbers) (now ends) (now weights) (now positions) movers initial ⌝ }
     ensures { λ r. ⌜ InPlay (now (numbers .entry)) (now (ends .entry)) (now (weights .entry)) (now (positions .entry)) r ⌝ }
 {
     let mut rest = movers;
-    let mut weight = entering;
+    let mut weight = initial;
     while 0 < rest {
         let run = mask::lowest_run(rest);
         rest = mask::without_lowest(rest);

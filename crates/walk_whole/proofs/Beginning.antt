@@ -23,7 +23,7 @@ use Rattle.walk_rounds.specs.declared.End.{End}
 use Rattle.walk_write.specs.declared.State.{State}
 use Rattle.walk_begin.proofs.Standing.{standing-idle, standing-chosen, standing-rises}
 use Rattle.walk_keys.specs.Row.{sumOf, keyWeight, HaveWeights}
-use Rattle.walk_settle.proofs.Passing.{labels, number, small, row-plays}
+use Rattle.walk_settle.proofs.Passing.{labels, number, small, row-weight-in-play}
 use Rattle.walk_state.proofs.Moving.{past-is, runs-at-labels}
 use Rattle.walk_write.proofs.Rows.{row-weights}
 use Rattle.walk_begin.specs.Begin.{BeginReady, standing}
@@ -85,7 +85,7 @@ module _ (numbers ends ws firsts : List ℕ) (m t : ℕ) (positions keys A B : L
         some = b .asked .some;
         holds = held;
         rising = rising;
-        in-play = record { row = b .asked .row; sum = carried ∙ row-plays numbers ends positions′ keys′ start (b .asked .few) held ws };
+        in-play = record { row = b .asked .row; sum = carried ∙ row-weight-in-play numbers ends positions′ keys′ start (b .asked .few) held ws };
         bin = let e = past-is in omega arith;
         allowed = b .asked .allowed;
       },

@@ -17,10 +17,10 @@ use Rattle.walk_weight.proofs.lowered.Statement.{statement}
 use Rattle.walk_weight.proofs.lowered.Tie as tie
 
 abbrev Inv-loop : tie.InvT-loop
-Inv-loop numbers ends weights positions movers entering rest₀ weight₀ rest weight = Lowerable numbers ends weights positions rest weight
+Inv-loop numbers ends weights positions movers initial rest₀ weight₀ rest weight = Lowerable numbers ends weights positions rest weight
 
 abbrev μ-loop : tie.MeasureT-loop
-μ-loop numbers ends weights positions movers entering rest₀ weight₀ rest weight = rest
+μ-loop numbers ends weights positions movers initial rest₀ weight₀ rest weight = rest
 
 loop-holds : tie.Need-loop-holds Inv-loop μ-loop
 loop-holds c = c .before .before .before .before .pre

@@ -1,7 +1,7 @@
 -- `moved` takes the run's weight off where the run has no number left. Assumes nothing.
 use borrow.Author.Needs.{needs}
 use native.Mathlib.Omega.{arith}
-use Rattle.walk_state.proofs.Playing.{lost-none, lost-all}
+use Rattle.walk_state.proofs.InPlay.{lost-none, lost-all}
 use Rattle.walk_weight.proofs.moved.Statement.{statement}
 use Rattle.walk_weight.proofs.moved.Tie as tie
 

@@ -1,19 +1,18 @@
 -- The weight still in play where runs are moved: after one run is moved to a place, and after all that a mask names are moved on by one, of which the weight is
 -- lowered for one at a time. Assumes nothing.
-use Prim.Native.Nat.{ℕ, zero, suc, _+_, _-_, _*_, _^_, _≤_, _<_}
+use Prim.Native.Nat.{ℕ, zero, suc, _+_, _*_, _≤_, _<_}
 use borrow.Author.Tests.{lt-ltb, le-ltb}
 use lib.Dec.{ltb}
-use lib.ListN.{length, getD, drop, set, length-drop}
+use lib.ListN.{length, getD, set}
 use mathlib.Core.Bool.{Bool, true, false}
 use mathlib.Core.List.{List, [], _∷_, map, List·Memᴰ}
 use mathlib.Core.Logic.{⊎-elim, _≢_}
-use mathlib.Core.Path.{_≡_, refl, sym, ap, _∙_, subst}
+use mathlib.Core.Path.{_≡_, sym, ap, _∙_, subst}
 use native.Mathlib.Nat.{one-mul, zero-mul}
 use native.Mathlib.Omega.{arith}
 use Rattle.model.specs.Runs.{Run, slice, pastBin, weightedRun, weighted, total, one, weightOf, names}
-use Rattle.model.specs.Walk.{head, headOf, weightInPlay}
+use Rattle.model.specs.Walk.{head, weightInPlay}
 use Rattle.model.proofs.Count.{total-map, total-eq}
-use Rattle.model.proofs.Masks.{Labelled}
 use Rattle.model.proofs.Tests.{both, lt-or-le, true-false}
 use Rattle.walk_state.specs.State.{noRun, runsAt, Inside, InPlay, lostAt, weightIfHeads}
 use Rattle.walk_state.specs.Moves.{stepNamed}
@@ -29,20 +28,20 @@ module _ (ws : List ℕ) where
   adds p r = one (p r) * getD ws (r .label) 1
 
   -- what a run adds to the weight in play
-  unfoldable playing : Run → ℕ
-  playing r = adds (λ q. ltb (head q) pastBin) r
+  unfoldable added : Run → ℕ
+  added r = adds (λ q. ltb (head q) pastBin) r
 
-  in-play-sum : (rs : List Run) → weightInPlay (weighted ws rs) ≡ total playing rs
-  unfolding weightOf weighted weightedRun head playing adds
+  in-play-sum : (rs : List Run) → weightInPlay (weighted ws rs) ≡ total added rs
+  unfolding weightOf weighted weightedRun head added adds
   in-play-sum rs = total-map _ (weightedRun ws) rs
 
-  playing-some : (r : Run) → head r < pastBin → playing r ≡ getD ws (r .label) 1
-  unfolding playing adds one
-  playing-some r h = ap (λ b. one b * getD ws (r .label) 1) (lt-ltb (head r) pastBin h) ∙ one-mul (getD ws (r .label) 1)
+  added-some : (r : Run) → head r < pastBin → added r ≡ getD ws (r .label) 1
+  unfolding added adds one
+  added-some r h = ap (λ b. one b * getD ws (r .label) 1) (lt-ltb (head r) pastBin h) ∙ one-mul (getD ws (r .label) 1)
 
-  playing-none : (r : Run) → pastBin ≤ head r → playing r ≡ 0
-  unfolding playing adds one
-  playing-none r h = ap (λ b. one b * getD ws (r .label) 1) (le-ltb (head r) pastBin h) ∙ zero-mul (getD ws (r .label) 1)
+  added-none : (r : Run) → pastBin ≤ head r → added r ≡ 0
+  unfolding added adds one
+  added-none r h = ap (λ b. one b * getD ws (r .label) 1) (le-ltb (head r) pastBin h) ∙ zero-mul (getD ws (r .label) 1)
 
 -- a sum over runs of which one is another
 total-set : (g : Run → ℕ) (rs : List Run) (j : ℕ) (x : Run) → j < length rs → total g (set rs j x) + g (getD rs j noRun) ≡ total g rs + g x
@@ -66,19 +65,19 @@ module _ (numbers ws : List ℕ) (small : (i : ℕ) → getD numbers i 0 < pastB
   runAt place = record { label = run; weight = 1; bins = slice numbers place end }
 
   -- what it adds and what it no longer adds are its weight
-  at-place : (place : ℕ) → place ≤ end → playing ws (runAt place) + lostAt ws run place end ≡ getD ws run 1
+  at-place : (place : ℕ) → place ≤ end → added ws (runAt place) + lostAt ws run place end ≡ getD ws run 1
   unfolding head
   at-place place l =
       ⊎-elim
       (λ (q : place < end).
       let h = head-at numbers place end q inside in
       let s = small place in
-      let p = playing-some ws (runAt place) (omega arith) in
+      let p = added-some ws (runAt place) (omega arith) in
       let n = lost-none ws run place end q in
       omega arith)
       (λ (q : end ≤ place).
       let h = head-empty numbers place end (omega arith) in
-      let p = playing-none ws (runAt place) (omega arith) in
+      let p = added-none ws (runAt place) (omega arith) in
       let n = lost-all ws run place end q in
       omega arith)
       (lt-or-le place end)
@@ -94,14 +93,14 @@ module _ (numbers ends ws positions : List ℕ) (run q weight : ℕ) (small : (i
       let z : 0 + run ≡ run = omega arith in
       let w = inside .within run index in
       let n = runs-at-length 0 numbers positions ends (inside .lengths) in
-      let was = ap (playing ws) (run-at 0 numbers positions ends run (inside .lengths) index)
-      ∙ ap (λ l. playing ws (record { label = l; weight = 1; bins = slice numbers (getD positions run 0) e })) z in
-      let now = ap (λ l. playing ws (record { label = l; weight = 1; bins = slice numbers q e })) z in
+      let was = ap (added ws) (run-at 0 numbers positions ends run (inside .lengths) index)
+      ∙ ap (λ l. added ws (record { label = l; weight = 1; bins = slice numbers (getD positions run 0) e })) z in
+      let now = ap (λ l. added ws (record { label = l; weight = 1; bins = slice numbers q e })) z in
       let before = at-place numbers ws small run e w (getD positions run 0) (omega arith) in
       let none = lost-none ws run (getD positions run 0) e headed in
       let after = at-place numbers ws small run e w q order in
-      let one-set = total-set (playing ws) rs run (record { label = 0 + run; weight = 1; bins = slice numbers q e }) (omega arith) in
-      let a = ap (λ x. total (playing ws) x) (runs-at-set 0 numbers positions ends run q (inside .lengths) index) in
+      let one-set = total-set (added ws) rs run (record { label = 0 + run; weight = 1; bins = slice numbers q e }) (omega arith) in
+      let a = ap (λ x. total (added ws) x) (runs-at-set 0 numbers positions ends run q (inside .lengths) index) in
       let b = in-play-sum ws (runsAt 0 numbers (set positions run q) ends) in
       let c = in-play-sum ws rs in
       let d = h .sum in
@@ -131,8 +130,8 @@ module _ (ws : List ℕ) where
   unfolding counted adds one
   counted-named rest r e = rw e (one-mul (getD ws (r .label) 1))
 
-  counted-other : (rest : ℕ) (r : Run) → names rest r ≡ false → counted rest r ≡ playing ws r
-  unfolding counted adds playing
+  counted-other : (rest : ℕ) (r : Run) → names rest r ≡ false → counted rest r ≡ added ws r
+  unfolding counted adds added
   counted-other rest r e = rw e
 
   -- where each run that is named has a head, it adds as much as it does
@@ -140,10 +139,10 @@ module _ (ws : List ℕ) where
       → weightIfHeads rest (weighted ws rs) ≡ weightInPlay (weighted ws rs)
   if-heads-is rest rs h =
       if-heads-sum rest rs
-      ∙ (total-eq (counted rest) (playing ws) rs
+      ∙ (total-eq (counted rest) (added ws) rs
       (λ r m.
       ⊎-elim
-      (λ e. counted-named rest r e ∙ sym (playing-some ws r (h r m e)))
+      (λ e. counted-named rest r e ∙ sym (added-some ws r (h r m e)))
       (λ e. counted-other rest r e)
       (both (names rest r)))
       ∙ sym (in-play-sum ws rs))
@@ -154,12 +153,12 @@ module _ (ws : List ℕ) where
   if-heads-step named rs h =
       if-heads-sum named (map (stepNamed named) rs)
       ∙ (total-map (counted named) (stepNamed named) rs
-      ∙ (total-eq (λ r. counted named (stepNamed named r)) (playing ws) rs
+      ∙ (total-eq (λ r. counted named (stepNamed named r)) (added ws) rs
       (λ r m.
       ⊎-elim
       (λ e.
       counted-named named (stepNamed named r) (names-label named (stepNamed named r) r (step-label named r) ∙ e)
-      ∙ (ap (λ l. getD ws l 1) (step-label named r) ∙ sym (playing-some ws r (h r m e))))
+      ∙ (ap (λ l. getD ws l 1) (step-label named r) ∙ sym (added-some ws r (h r m e))))
       (λ e. ap (counted named) (step-still named r e) ∙ counted-other named r e)
       (both (names named r)))
       ∙ sym (in-play-sum ws rs)))
@@ -180,7 +179,7 @@ module _ (numbers ends ws positions : List ℕ) (rest rest′ run : ℕ) (small 
       ∙ (λ d. record { label = z d; weight = 1; bins = slice numbers (getD positions run 0) (getD ends run 0) }) in
       let t = total-one (counted ws rest) (counted ws rest′) rs labels run i (λ q m d. same q (λ e. d (omega arith))) in
       let a = counted-named ws rest r (run-named rs labels rest rest′ run k i) ∙ ap (λ (q : Run). getD ws (q .label) 1) is in
-      let b = counted-other ws rest′ r (run-cleared rs labels rest rest′ run k i) ∙ ap (playing ws) is in
+      let b = counted-other ws rest′ r (run-cleared rs labels rest rest′ run k i) ∙ ap (added ws) is in
       let p = at-place numbers ws small run (getD ends run 0) (inside .within run index) (getD positions run 0) (inside .before run index) in
       let c = if-heads-sum ws rest rs in
       let d = if-heads-sum ws rest′ rs in
