@@ -8,7 +8,7 @@ use comparison::question::{walk_of, Comparer, Question};
 use comparison::seeds;
 use comparison::shapes::uneven_runs;
 use reference::testing::{any_weights, lay_out, weight_of, Random, Wanted, M};
-use reference::{named_runs, trace_by, Part, Trace, Weighting};
+use reference::{named_runs, trace_by, Part, Trace, Weighting, MAX_RUNS};
 use std::cmp::Reverse;
 
 /// What a walk meets as its runs run out.
@@ -32,8 +32,35 @@ enum Event {
     AtOnce,
 }
 
-/// Counts what the walk of runs of these weights meets.
-fn look(met: &mut Met<Event>, runs: &[Vec<u32>], weights: &[u32], wanted: u32, walk: &Trace) {
+/// The mask of the chosen runs that have a head as each round of a walk begins,
+/// the one that ends it included: those with a bin not below the floor.
+fn heads_of(runs: &[Vec<u32>], chosen: u64, parts: &[Part]) -> Vec<u64> {
+    let mut heads = Vec::new();
+    let mut is_after_gap = false;
+    for part in parts {
+        let (floor, is_gap) = match *part {
+            Part::Gap { first, .. } => (first, true),
+            Part::Answer { value, .. } => (value, false),
+        };
+        // An answer right after a gap is of the same round.
+        if is_gap || !is_after_gap {
+            let has_head = |&i: &usize| runs[i].last() >= Some(&floor);
+            heads.push(named_runs(chosen).filter(has_head).map(|i| 1 << i).sum());
+        }
+        is_after_gap = is_gap;
+    }
+    heads
+}
+
+/// Counts what the walk of the chosen runs meets, which have these weights.
+fn look(
+    met: &mut Met<Event>,
+    (runs, chosen): (&[Vec<u32>], u64),
+    weights: &[u32],
+    wanted: u32,
+    walk: &Trace,
+) {
+    let heads = heads_of(runs, chosen, &walk.parts);
     let mut stepped = 0;
     for part in &walk.parts {
         if let Part::Answer { value, mask } = *part {
@@ -43,13 +70,13 @@ fn look(met: &mut Met<Event>, runs: &[Vec<u32>], weights: &[u32], wanted: u32, w
             }
         }
     }
-    let left = walk.heads[walk.heads.len() - 1];
+    let left = heads[heads.len() - 1];
     // A run whose last number is no answer runs out by a search.
-    for i in named_runs(walk.heads[0] & !left & !stepped) {
+    for i in named_runs(heads[0] & !left & !stepped) {
         met.count(Event::Search, weights[i].into());
     }
-    if walk.searches.len() + 1 < walk.heads.len() {
-        met.count(Event::NoSearch, walk.heads.len() as u64);
+    if walk.searches.len() + 1 < heads.len() {
+        met.count(Event::NoSearch, heads.len() as u64);
     }
     let in_play = weight_of(weights, left);
     if wanted <= in_play {
@@ -62,7 +89,7 @@ fn look(met: &mut Met<Event>, runs: &[Vec<u32>], weights: &[u32], wanted: u32, w
     if left != 0 {
         met.count(Event::HeadsLeft, left.count_ones().into());
     }
-    match walk.heads[..] {
+    match heads[..] {
         [.., before, _] if weight_of(weights, before) == wanted => {
             met.count(Event::Enough, wanted.into());
         }
@@ -123,7 +150,8 @@ fn single_questions() {
             };
             let question = Question::wanting(&numbers, &ends, &wanted);
             let walk = walk_of(question).unwrap();
-            look(&mut met, &runs, &weights, threshold, &walk);
+            let all = u64::MAX >> (MAX_RUNS - runs.len());
+            look(&mut met, (&runs, all), &weights, threshold, &walk);
             for comparer in &mut comparers {
                 comparer.compare_limits(seed, &mut random, question);
             }
@@ -151,7 +179,8 @@ fn many_questions() {
         let call = Call::any(&mut random, &runs, questions);
         for (&mask, &t) in call.masks.iter().zip(&call.thresholds) {
             let walk = trace_by(&call.numbers, &call.ends, Weighting::Chosen(mask), t);
-            look(&mut met, &runs, &vec![1; runs.len()], t, &walk.unwrap());
+            let weights = vec![1; runs.len()];
+            look(&mut met, (&runs, mask), &weights, t, &walk.unwrap());
         }
         for comparer in &mut comparers {
             comparer.compare_limits(seed, &mut random, &call);

@@ -15,9 +15,6 @@ pub struct Trace {
     pub probes: Vec<Probes>,
     /// The probes of each search, in order.
     pub searches: Vec<Probes>,
-    /// The mask of the runs that have a head as each round begins, the one that
-    /// ends the walk included.
-    pub heads: Vec<u64>,
 }
 
 impl Trace {
@@ -46,17 +43,12 @@ pub fn trace_by(
         parts: Vec::new(),
         probes: vec![Probes::default(); ends.len()],
         searches: Vec::new(),
-        heads: Vec::new(),
     };
     walk(&runs, &weights, threshold, &mut trace).expect("a trace ends no walk");
     Ok(trace)
 }
 
 impl Recorder for Trace {
-    fn round(&mut self, runs: impl FnOnce() -> u64) {
-        self.heads.push(runs());
-    }
-
     fn search(&mut self) {
         self.searches.push(Probes::default());
     }

@@ -11,8 +11,6 @@ use crate::weights::Weights;
 /// Receives what a walk does, in order. An error is the number of the refusal
 /// that ends the walk there.
 pub(crate) trait Recorder {
-    /// A round begins; `runs` gives the mask of the runs that have a head.
-    fn round(&mut self, _runs: impl FnOnce() -> u64) {}
     /// A search begins.
     fn search(&mut self) {}
     /// One more probe of the search is due, in the given run.
@@ -37,8 +35,6 @@ pub(crate) fn walk<R: Recorder>(
     let mut heads = Heads::new(runs, chosen);
     let mut floor = FIRST_BIN;
     loop {
-        recorder.round(|| heads.runs());
-
         // Steps 1 and 2.
         let Some(v) = heads.least_enough(weights, threshold) else {
             let without_head = chosen & !heads.runs();

@@ -39,7 +39,6 @@ fn whole_walk(runs: &[Vec<u32>], wanted: &Wanted, size: Size) {
     assert_eq!(parts.len(), fewest, "{}", context());
     assert!(plain.full_rounds <= parts.len(), "{}", context());
     assert_eq!(whole.searches, plain.searches, "{}", context());
-    assert_eq!(whole.heads, plain.heads, "{}", context());
     // The sum over the runs' bins; that of the numbers as lent is no smaller.
     let mut bounds = 0;
     for (i, run) in runs.iter().enumerate() {

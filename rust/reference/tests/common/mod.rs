@@ -156,8 +156,6 @@ pub struct PlainWalk {
     pub events: Vec<Event>,
     /// The probes of each search.
     pub searches: Vec<Probes>,
-    /// The runs that have a head as each round begins.
-    pub heads: Vec<u64>,
     /// Rounds that did not end in step 1.
     pub full_rounds: usize,
 }
@@ -174,16 +172,13 @@ impl PlainWalk {
         let mut walk = PlainWalk {
             events: Vec::new(),
             searches: Vec::new(),
-            heads: Vec::new(),
             full_rounds: 0,
         };
         // Each run's numbers that are not done with.
         let mut left: Vec<&[u32]> = runs.iter().map(|run| mapped(run)).collect();
         let mut floor = 1;
         loop {
-            let with_head = mask(&left, |head| head.is_some());
-            walk.heads.push(with_head);
-            if !is_enough(with_head) {
+            if !is_enough(mask(&left, |head| head.is_some())) {
                 let mask = mask(&left, |head| head.is_none());
                 walk.events.push(Event::Write(gap(floor, M, mask)));
                 return walk;
