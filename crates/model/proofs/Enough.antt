@@ -23,9 +23,9 @@ use Rattle.model.proofs.Cutting.{cut-on, cut-here, encoded}
 use Rattle.model.proofs.Demands.{whole-walked}
 use Rattle.model.proofs.Events.{parts-round}
 use Rattle.model.proofs.FirstChecks.{Listed, first-passed, weighted-passed, fit, weighted-fit, not-fallen}
-use Rattle.model.specs.Rows.{below, equal}
+use Rattle.model.specs.Rows.{equal}
 use Rattle.model.proofs.From.{from-pass, from-stop, from-nil, from-from, from-length, from-fewer, head-nil, head-cons}
-use Rattle.model.proofs.Heads.{atMost}
+use Rattle.model.proofs.Heads.{atMost, below}
 use Rattle.model.proofs.Tests.{lt-or-le, eq-or-ne, one-most}
 use Rattle.model.proofs.Truth.{Fit, weight-at}
 use Rattle.model.proofs.Walking.{fromRun, at, head-from, gapAt, answerAt, Walked, over, stop, pass, hit, hit-here}

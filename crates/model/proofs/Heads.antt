@@ -13,11 +13,13 @@ use Rattle.model.specs.Runs.{Run, pastBin, total, one, weightOf, weightO
 use Rattle.model.specs.Walk.{head, leastHead, enoughHead}
 use Rattle.model.proofs.Count.{total-add, total-eq, total-zero, weight-le, weight-eq, weight-some}
 use Rattle.model.proofs.Tests.{both, lt-or-le, eq-or-ne}
-use Rattle.model.specs.Rows.{below}
 
--- what the runs whose heads are not above h weigh
+-- what the runs whose heads are not above h weigh, and those whose heads are below h; below `pastBin` it is the weight in play
 unfoldable pub atMost : ℕ → List Run → ℕ
 atMost h rs = weightOf (λ r. leb (head r) h) rs
+
+unfoldable pub below : ℕ → List Run → ℕ
+below h rs = weightOf (λ r. ltb (head r) h) rs
 
 -- every head is a bin or the number after the last
 pub record Heads (rs : List Run) : Type 0 where

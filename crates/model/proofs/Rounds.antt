@@ -14,8 +14,8 @@ use Rattle.model.specs.Walk.{Event, wrote, head, enoughHead, searches, s
 use Rattle.model.proofs.Count.{weight-le}
 use Rattle.model.proofs.Demands.{whole-walked}
 use Rattle.model.proofs.Events.{parts-wrote, parts-round}
-use Rattle.model.specs.Rows.{below, equal}
-use Rattle.model.proofs.Heads.{atMost}
+use Rattle.model.specs.Rows.{equal}
+use Rattle.model.proofs.Heads.{atMost, below}
 use Rattle.model.proofs.Tests.{lt-or-le}
 use Rattle.model.proofs.Truth.{Fit}
 use Rattle.model.proofs.Walking.{Rising, at, at-least, at-start, searched-at, moved-at, past-last, Ahead, gapAt, answerAt, Walked, over, stop, pass, hit, hit-here, no-searches, settled-hit, settled-last, settled-pass, round-stop, round-gap, round-here}

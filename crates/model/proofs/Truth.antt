@@ -14,7 +14,8 @@ use Rattle.model.specs.Runs.{Run, lastBin, pastBin, from, weightOf, weig
 use Rattle.model.specs.Walk.{Event, head, headOf, wrote}
 use Rattle.model.proofs.Count.{weight-map, weight-eq}
 use Rattle.model.proofs.Events.{parts-wrote, parts-nil, parts-round}
-use Rattle.model.specs.Rows.{below, equal}
+use Rattle.model.specs.Rows.{equal}
+use Rattle.model.proofs.Heads.{below}
 use Rattle.model.proofs.From.{rise-from, mem-from, from-mem, head-below-mem, head-mem}
 use Rattle.model.proofs.Masks.{Ascending, ascending-nil, ascending-cons, mask-bit, names-mask}
 use Rattle.model.proofs.Tests.{lt-or-le}

@@ -12,9 +12,9 @@ use Rattle.model.specs.Certificate.{Part, answer, gap}
 use Rattle.model.specs.Runs.{Run, firstBin, lastBin, pastBin, from, weightOf, weightOfAll, mask}
 use Rattle.model.specs.Walk.{Event, wrote, headOf, head, enoughHead, searchIn, searches, searched, movedOn, settle, round, walk}
 use Rattle.model.proofs.Count.{total-map, weight-le}
-use Rattle.model.specs.Rows.{Rise, below, equal}
+use Rattle.model.specs.Rows.{Rise, equal}
 use Rattle.model.proofs.From.{rise-from, from-from, from-all, from-nil, head-nil, head-cons, head-least, head-bin, from-past-head, from-other-head}
-use Rattle.model.proofs.Heads.{Heads, atMost, enough-past, enough-ge, enough-reached, enough-few}
+use Rattle.model.proofs.Heads.{Heads, atMost, below, enough-past, enough-ge, enough-reached, enough-few}
 use Rattle.model.proofs.Searching.{sought-right}
 use Rattle.model.proofs.Tests.{lt-or-le, eq-or-ne}
 

@@ -1,7 +1,7 @@
 -- Lists and rows of numbers in order, runs weighed by their heads, and searches cut short: terms in which the code's contracts speak. Definitions only.
 use Prim.Native.Nat.{ℕ, suc, _≤_, _<_}
 use mathlib.Core.List.{List, [], _∷_}
-use lib.Dec.{ltb, eqb}
+use lib.Dec.{eqb}
 use Rattle.model.specs.Compared.{halvingsOf}
 use Rattle.model.specs.Refusals.{cut}
 use Rattle.model.specs.Runs.{Run, pastBin, weightOf}
@@ -16,10 +16,6 @@ pub data Rise : ℕ → List ℕ → Type 0 where
 pub data Ordered : ℕ → List ℕ → Type 0 where
   ordered-nil : {a : ℕ} → Ordered a []
   ordered-cons : {a x : ℕ} {s : List ℕ} → a ≤ x → Ordered x s → Ordered a (x ∷ s)
-
--- what the runs whose heads are below h weigh
-unfoldable pub below : ℕ → List Run → ℕ
-below h rs = weightOf (λ r. ltb (head r) h) rs
 
 -- what the runs whose heads equal v weigh
 unfoldable pub equal : ℕ → List Run → ℕ

@@ -10,7 +10,7 @@ use native.Mathlib.Omega.{arith}
 use Rattle.model.specs.Compared.{doublingsOf, halvingsOf}
 use Rattle.model.specs.Runs.{Run, pastBin, weighted, mask, maskOfAll, names}
 use Rattle.model.specs.Walk.{Event, head, searches, searched, settle, round, walk}
-use Rattle.model.specs.Rows.{Rise, below, equal, halvingsWithin}
+use Rattle.model.specs.Rows.{Rise, equal, halvingsWithin}
 use Rattle.model.proofs.Events.{both-kinds}
 use Rattle.model.proofs.From.{rise-from, head-bin}
 use Rattle.model.proofs.Heads.{Heads, atMost, enough-reached, enough-ge}

@@ -9,9 +9,9 @@ use mathlib.Core.Path.{_≡_, refl, sym, ap, _∙_}
 use native.Mathlib.Omega.{arith}
 use Rattle.model.specs.Certificate.{answer, gap}
 use Rattle.model.specs.Runs.{Run, lastBin, pastBin, one, weightOf, mask, maskOfAll}
-use Rattle.model.specs.Walk.{Event, wrote, head, enoughHead, searches, searched, movedOn, settle, round}
+use Rattle.model.specs.Walk.{Event, wrote, head, enoughHead, searches, searched, movedOn, settle, round, weightInPlay}
 use Rattle.model.proofs.Count.{total-eq, total-add}
-use Rattle.model.specs.Rows.{below, equal}
+use Rattle.model.specs.Rows.{equal}
 use Rattle.model.proofs.Truth.{not-below}
 
 -- ---- masks
@@ -44,20 +44,20 @@ front-in-all rs v = let b = heads-split rs v in omega arith
 
 -- ---- rounds
 
-pub round-ends : (next : ℕ → List Run → List Event) (t f : ℕ) (rs : List Run) → below pastBin rs < t
+pub round-ends : (next : ℕ → List Run → List Event) (t f : ℕ) (rs : List Run) → weightInPlay rs < t
     → round next t f rs ≡ wrote (gap f lastBin (mask (λ r. leb pastBin (head r)) rs)) ∷ []
-unfolding round below
-round-ends next t f rs h = rw (lt-ltb (weightOf (λ r. ltb (head r) pastBin) rs) t h, round)
+unfolding round
+round-ends next t f rs h = rw (lt-ltb (weightInPlay rs) t h, round)
 
 -- the gap before v, where there is one
 unfoldable pub gapBefore : ℕ → ℕ → List Run → List Event
 gapBefore f v rs = elim (ltb f v) [ true ↦ wrote (gap f (v - 1) (mask (λ r. leb v (head r)) rs)) ∷ [] | false ↦ [] ]
 
-pub round-is : (next : ℕ → List Run → List Event) (t f v : ℕ) (rs : List Run) → t ≤ below pastBin rs → enoughHead t rs ≡ v
+pub round-is : (next : ℕ → List Run → List Event) (t f v : ℕ) (rs : List Run) → t ≤ weightInPlay rs → enoughHead t rs ≡ v
     → round next t f rs ≡ gapBefore f v rs ++ (searches v rs ++ settle next t v (map (searched v) rs))
-unfolding round below gapBefore
+unfolding round gapBefore
 round-is next t f v rs h e =
-    rw (le-ltb (weightOf (λ r. ltb (head r) pastBin) rs) t h, round)
+    rw (le-ltb (weightInPlay rs) t h, round)
     (ap (λ x. gapBefore f x rs ++ (searches x rs ++ settle next t x (map (searched x) rs))) e)
 
 pub settle-passes : (next : ℕ → List Run → List Event) (t v : ℕ) (rs : List Run) → equal v rs < t → settle next t v rs ≡ next v rs

@@ -8,8 +8,7 @@ use mathlib.Core.Path.{_≡_, sym, ap, _∙_, subst}
 use native.Mathlib.Omega.{arith}
 use Rattle.model.specs.Certificate.{gap}
 use Rattle.model.specs.Runs.{Run, lastBin, pastBin, weightOfAll, mask, maskOfAll, mostRuns}
-use Rattle.model.specs.Walk.{wrote, head, enoughHead, round, walk}
-use Rattle.model.specs.Rows.{below}
+use Rattle.model.specs.Walk.{wrote, head, weightInPlay, enoughHead, round, walk}
 use Rattle.model.proofs.Heads.{Heads}
 use Rattle.model.proofs.Masks.{Ascending}
 use Rattle.walk_keys.specs.Row.{noKey, sumOf, labelSum, keyWeight, reachedHead, Reaches, HaveWeights}
@@ -57,8 +56,7 @@ module _ (numbers ends ws positions keys A B : List ℕ) (m t : ℕ) (w : State)
   met = chosen-met numbers ends ws positions m t c keys (w .start) (s .few) (s .holds)
 
   -- the weight that the state carries is that of the chosen runs with a head
-  carried : w .weight ≡ below pastBin cs
-  unfolding below
+  carried : w .weight ≡ weightInPlay cs
   carried = s .in-play .sum ∙ sym (idle-in-play m (runsAt 0 numbers positions ends) (c .idle) ws)
 
   pub reach-ready : t ≤ w .weight → (0 < t) × (w .start ≤ length keys) × HaveWeights ws row × (t ≤ sumOf (keyWeight ws) row)
