@@ -10,7 +10,8 @@
 //!
 //! * [`query()`] walks the runs and writes answers and a certificate,
 //!   [`query_weighted()`] does so for runs with weights, [`query_many()`] for many
-//!   questions, each about some of the runs.
+//!   questions, each about some of the runs. [`query_alone()`] writes what the
+//!   first run holds and too few of the others.
 //! * [`check()`] decides whether a certificate is true, and names the first
 //!   wrong field.
 //! * [`between()`] finds the bins of one list between two numbers.
@@ -30,6 +31,7 @@
 #![forbid(unsafe_code)]
 #![warn(missing_docs)]
 
+pub mod alone;
 pub mod between;
 pub mod bins;
 pub mod bounds;
@@ -51,6 +53,7 @@ mod walk;
 pub mod weights;
 mod writer;
 
+pub use alone::query_alone;
 pub use between::between;
 pub use bins::{bins, first_not_rising, leading_zeros, FIRST_BIN};
 pub use bounds::{digits, probe_bound, probe_bound_chosen};
@@ -61,7 +64,7 @@ pub use first_checks::{first_checks, first_checks_by, split_runs, Refusal, MAX_N
 pub use hits::hits;
 pub use lcov::{lcov_run, Reading};
 pub use many::{query_many, ManyOutcome};
-pub use mask::{all_runs, named_runs};
+pub use mask::{all_runs, named_runs, other_runs};
 pub use probes::{Probe, Probes};
 pub use query::{query, query_by, query_weighted, Outcome};
 pub use text::{parse, Question};

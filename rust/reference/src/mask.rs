@@ -15,6 +15,11 @@ pub fn all_runs(k: usize) -> u64 {
     u64::MAX.checked_shr(beyond).unwrap_or(0)
 }
 
+/// Returns the mask of all `k` runs but the first.
+pub fn other_runs(k: usize) -> u64 {
+    all_runs(k) & !bit(0)
+}
+
 /// Returns the runs that a mask names, in rising order.
 pub fn named_runs(mut mask: u64) -> impl Iterator<Item = usize> {
     std::iter::from_fn(move || {

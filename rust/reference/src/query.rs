@@ -5,7 +5,8 @@ use crate::walk::walk;
 use crate::weights::Weighting;
 use crate::writer::{Writer, Written};
 
-/// What [`query()`] returns.
+/// What [`query()`], [`query_weighted()`] and
+/// [`query_alone()`](crate::query_alone()) return.
 #[derive(Clone, Copy, Debug, PartialEq, Eq)]
 pub enum Outcome {
     /// The walk reached its end.
@@ -37,6 +38,49 @@ pub enum Outcome {
         /// How many probes were made by halving.
         halvings: u64,
     },
+}
+
+impl Outcome {
+    /// What the first checks refuse: nothing was written or probed.
+    pub(crate) fn refused_first(refusal: Refusal) -> Self {
+        let Refusal { number, place } = refusal;
+        Outcome::Refused {
+            number,
+            place,
+            answers: 0,
+            bytes: 0,
+            doublings: 0,
+            halvings: 0,
+        }
+    }
+
+    /// What comes of a walk, with the number of the refusal if there is one.
+    pub(crate) fn of_walk(end: Result<(), u8>, written: Written) -> Self {
+        let Written {
+            answers,
+            parts,
+            bytes,
+            doublings,
+            halvings,
+        } = written;
+        match end {
+            Ok(()) => Outcome::Accepted {
+                answers,
+                parts,
+                bytes,
+                doublings,
+                halvings,
+            },
+            Err(number) => Outcome::Refused {
+                number,
+                place: parts,
+                answers,
+                bytes,
+                doublings,
+                halvings,
+            },
+        }
+    }
 }
 
 /// Writes the bins that at least `threshold` of the runs hold to `answers`
@@ -100,42 +144,10 @@ pub fn query_by(
 ) -> Outcome {
     let weights = match checked_weights(numbers, ends, weighting, threshold) {
         Ok(weights) => weights,
-        Err(Refusal { number, place }) => {
-            return Outcome::Refused {
-                number,
-                place,
-                answers: 0,
-                bytes: 0,
-                doublings: 0,
-                halvings: 0,
-            }
-        }
+        Err(refusal) => return Outcome::refused_first(refusal),
     };
     let runs = split_runs(numbers, ends);
     let mut writer = Writer::new(allowance, answers, certificate);
     let end = walk(&runs, &weights, threshold, &mut writer);
-    let Written {
-        answers,
-        parts,
-        bytes,
-        doublings,
-        halvings,
-    } = writer.written();
-    match end {
-        Ok(()) => Outcome::Accepted {
-            answers,
-            parts,
-            bytes,
-            doublings,
-            halvings,
-        },
-        Err(number) => Outcome::Refused {
-            number,
-            place: parts,
-            answers,
-            bytes,
-            doublings,
-            halvings,
-        },
-    }
+    Outcome::of_walk(end, writer.written())
 }

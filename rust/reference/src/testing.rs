@@ -3,16 +3,19 @@
 //! specification's instances: queries as a list of runs, weights, threshold,
 //! allowance, expected parts and outcome, checks as one of certificates and
 //! verdicts, parts between two numbers, and those about some of the runs, about
-//! checks by weight and about tracefiles in lists of their own.
+//! what the first run holds alone, about checks by weight and about tracefiles in
+//! lists of their own.
 
 use crate::{encode, Outcome, Part, Verdict};
 use std::iter;
 
+mod alone;
 mod lcov;
 mod many;
 mod marks;
 mod weights;
 
+pub use alone::{alone_instances, held_alone, AloneInstance};
 pub use lcov::{
     lcov_instances, record_forms, LcovInstance, FOUR_SECTIONS, OTHER_LINES, SHORT_RECORD_FORMS,
 };

@@ -4,10 +4,8 @@
 
 mod common;
 
-use common::{any_runs, counted_answers, long_and_short, mapped, Event, Limited, PlainWalk};
-use reference::testing::{
-    choose, gap, hit, lay_out, many_row, renumber, slices, small_inputs, Random, M,
-};
+use common::{any_runs, counted_answers, long_and_short, mapped, Limited, PlainWalk};
+use reference::testing::{choose, gap, hit, lay_out, many_row, slices, small_inputs, Random, M};
 use reference::{
     all_runs, check_chosen, decode, digits, encode, fewest_parts_by, is_true_by,
     probe_bound_chosen, query, query_many, Outcome, Part, Probes, Verdict, Weighting,
@@ -51,16 +49,7 @@ impl Asked {
     }
 
     fn push(&mut self, mask: u64, threshold: u32) {
-        let chosen: Vec<Vec<u32>> = choose(&self.runs, mask)
-            .into_iter()
-            .map(<[u32]>::to_vec)
-            .collect();
-        let mut walk = PlainWalk::new(&chosen, Weighting::Plain, threshold);
-        for event in &mut walk.events {
-            if let Event::Write(part) = event {
-                *part = renumber(&[*part], mask)[0];
-            }
-        }
+        let walk = PlainWalk::of_chosen(&self.runs, mask, threshold);
         self.masks.push(mask);
         self.thresholds.push(threshold);
         self.walks.push(walk);

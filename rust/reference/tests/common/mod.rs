@@ -5,7 +5,8 @@
 #![allow(dead_code)]
 
 use reference::testing::{
-    accepted, answers_of, gap, hit, lay_out, mark_some, refused, Random, Wanted, M,
+    accepted, answers_of, choose, gap, hit, lay_out, mark_some, refused, renumber, Random, Wanted,
+    M,
 };
 use reference::{encode, query_by, Outcome, Part, Probe, Probes, Weighting};
 use std::collections::BTreeMap;
@@ -40,8 +41,7 @@ pub fn counted_answers<R: AsRef<[u32]>>(
         .collect()
 }
 
-/// Asks with buffers of the given sizes; returns the outcome, the answers and
-/// the certificate bytes written, after a look at what lies behind them.
+/// Asks with buffers of the given sizes, as [`in_room`] does.
 pub fn ask<R: AsRef<[u32]>>(
     runs: &[R],
     threshold: u32,
@@ -58,20 +58,32 @@ pub fn ask_for<R: AsRef<[u32]>>(
     runs: &[R],
     wanted: &Wanted,
     allowance: u32,
-    [answer_room, byte_room]: [usize; 2],
+    room: [usize; 2],
 ) -> (Outcome, Vec<u32>, Vec<u8>) {
     let (numbers, ends) = lay_out(runs);
+    let (weighting, threshold) = (wanted.weighting(), wanted.threshold);
+    in_room(room, |answers, certificate| {
+        query_by(
+            &numbers,
+            &ends,
+            weighting,
+            threshold,
+            allowance,
+            answers,
+            certificate,
+        )
+    })
+}
+
+/// What a query into buffers of the given sizes returns, with the answers and the
+/// certificate bytes written, after a look at what lies behind them.
+pub fn in_room(
+    [answer_room, byte_room]: [usize; 2],
+    query: impl FnOnce(&mut [u32], &mut [u8]) -> Outcome,
+) -> (Outcome, Vec<u32>, Vec<u8>) {
     let mut answers = vec![FILLER; answer_room];
     let mut certificate = vec![FILLER_BYTE; byte_room];
-    let outcome = query_by(
-        &numbers,
-        &ends,
-        wanted.weighting(),
-        wanted.threshold,
-        allowance,
-        &mut answers,
-        &mut certificate,
-    );
+    let outcome = query(&mut answers, &mut certificate);
     let (Outcome::Accepted {
         answers: count,
         bytes,
@@ -216,6 +228,21 @@ impl PlainWalk {
                 floor = v + 1;
             }
         }
+    }
+
+    /// The walk of the runs that the mask chooses, alone, with masks in the
+    /// numbering of all runs. The runs that its probes are in are counted among the
+    /// chosen.
+    pub fn of_chosen(runs: &[Vec<u32>], mask: u64, threshold: u32) -> Self {
+        let chosen = choose(runs, mask).into_iter();
+        let chosen: Vec<Vec<u32>> = chosen.map(<[u32]>::to_vec).collect();
+        let mut walk = PlainWalk::new(&chosen, Weighting::Plain, threshold);
+        for event in &mut walk.events {
+            if let Event::Write(part) = event {
+                *part = renumber(&[*part], mask)[0];
+            }
+        }
+        walk
     }
 
     pub fn parts(&self) -> Vec<Part> {
