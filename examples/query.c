@@ -2,6 +2,7 @@
  * Asks which bins at least two of {2, 5, 9}, {5, 7, 9, 12} and {1, 9} hold, has
  * the certificate checked, and prints the results and the certificate's parts.
  * Then the same with the first run counting for three, and a weight of three wanted.
+ * Last which bins of a new test, {2, 5, 8, 9}, fewer than two of the three hold.
  * It prints what is in expected.txt.
  *
  *     cc -Iinclude examples/query.c -Ltarget/staticlib -lquorum
@@ -106,13 +107,16 @@ int main(void) {
     const uint32_t numbers[9] = {2, 5, 9, 5, 7, 9, 12, 1, 9};
     const uint32_t ends[3] = {3, 7, 9};
     const uint32_t weights[3] = {3, 1, 1};
-    uint32_t answers[QUORUM_ENOUGH_ANSWERS(9)];
-    uint8_t certificate[QUORUM_ENOUGH_BYTES(9)];
+    const uint32_t tests[13] = {2, 5, 8, 9, 2, 5, 9, 5, 7, 9, 12, 1, 9};
+    const uint32_t test_ends[4] = {4, 7, 11, 13};
+    const uint64_t all_but_run_0 = 14;
+    uint32_t answers[QUORUM_ENOUGH_ANSWERS(13)];
+    uint8_t certificate[QUORUM_ENOUGH_BYTES(13)];
     uint64_t result[QUORUM_QUERY_ROW], verdict[QUORUM_CHECK_ROW];
     int failed;
 
     quorum_query(numbers, 9, ends, 3, 2, QUORUM_ENOUGH_PROBES, answers,
-                 QUORUM_ENOUGH_ANSWERS(9), certificate, sizeof certificate,
+                 QUORUM_ENOUGH_ANSWERS(13), certificate, sizeof certificate,
                  result);
     quorum_check(numbers, 9, ends, 3, 2, certificate,
                  result[QUORUM_QUERY_BYTES], verdict);
@@ -120,10 +124,17 @@ int main(void) {
 
     quorum_query_weighted(numbers, 9, ends, 3, weights, 3, 3,
                           QUORUM_ENOUGH_PROBES, answers,
-                          QUORUM_ENOUGH_ANSWERS(9), certificate,
+                          QUORUM_ENOUGH_ANSWERS(13), certificate,
                           sizeof certificate, result);
     quorum_check_weighted(numbers, 9, ends, 3, weights, 3, 3, certificate,
                           result[QUORUM_QUERY_BYTES], verdict);
+    failed |= print_all(result, answers, certificate, verdict);
+
+    quorum_query_alone(tests, 13, test_ends, 4, 2, QUORUM_ENOUGH_PROBES,
+                       answers, QUORUM_ENOUGH_ANSWERS(13), certificate,
+                       sizeof certificate, result);
+    quorum_check_chosen(tests, 13, test_ends, 4, all_but_run_0, 2, certificate,
+                        result[QUORUM_QUERY_BYTES], verdict);
     failed |= print_all(result, answers, certificate, verdict);
     return failed;
 }

@@ -88,4 +88,4 @@ done
 echo "examples/query.c prints what it should"
 
 c_lines README.md | run_lines README.md 10
-awk '/^ \*\// { on = 0 } on && sub(/^ \*     /, ""); /^ \* Example/ { on = 1 }' include/quorum.h | run_lines quorum.h 18
+awk '/^ \*\// { on = 0 } on && sub(/^ \*     /, ""); /^ \* Example/ { on = 1 }' include/quorum.h | run_lines quorum.h 21

@@ -69,7 +69,7 @@ extern "C" {
 
 /** The version. While the major number is 0, a higher minor one may change calls. */
 #define QUORUM_VERSION_MAJOR 0
-#define QUORUM_VERSION_MINOR 7
+#define QUORUM_VERSION_MINOR 8
 #define QUORUM_VERSION_PATCH 0
 
 /**
@@ -86,7 +86,9 @@ extern "C" {
  * Room that is always enough for n numbers, with weights or without: with so many
  * answers and certificate bytes refusals 5 and 6 never occur. (Proved:
  * `room-enough`, `weighted-room-enough`.) Many questions in one call need at most
- * this for each of them. (Proved: `many-room-enough`.)
+ * this for each of them. (Proved: `many-room-enough`.) quorum_query_alone needs at
+ * most so many answers for the numbers of run 0, and so many bytes for those of the
+ * other runs.
  */
 #define QUORUM_ENOUGH_ANSWERS(n) ((size_t)(n))
 #define QUORUM_ENOUGH_BYTES(n) (34 * (size_t)(n) + 19)
@@ -100,7 +102,7 @@ extern "C" {
  * `always-enough`, `weighted-always-enough`.) So is 2 * n * b for n numbers in all,
  * b being the binary digits of n (`numbers-enough`, `weighted-numbers-enough`). Many
  * questions in one call need at most this for each of them. (Proved:
- * `many-always-enough`.)
+ * `many-always-enough`.) quorum_query_alone needs at most this too.
  */
 #define QUORUM_ENOUGH_PROBES 44040192u
 
@@ -121,6 +123,10 @@ extern "C" {
  * quorum_probe_bound_chosen has 1, 13 and 3. quorum_query_many has 1, 3, 4 and 14
  * first, then 13 and 2 for each question before the next, and only then 5 to 7.
  *
+ * quorum_query_alone has 1 to 4 first, in this order, the threshold being held
+ * against the number of the other runs; then 6 and 7, whichever its walk meets first,
+ * and 5 after the walk.
+ *
  * Calls with weights check them just before the wanted weight:
  * quorum_query_weighted and quorum_check_weighted have 1, 17, 2, 3 and 4 first, in
  * this order, then 5 to 7 as quorum_query and 8 to 11 as quorum_check.
@@ -133,9 +139,10 @@ enum {
     /** No runs or more than 64. Place: ends_len. */
     QUORUM_BAD_RUN_COUNT = 1,
     /**
-     * The threshold is 0 or above the number of runs, or of those chosen. Place:
-     * threshold; from quorum_query_many the number of runs chosen. Or the wanted
-     * weight is 0 or above the weight of all runs. Place: wanted.
+     * The threshold is 0 or above the number of runs, or of those chosen, or for
+     * quorum_query_alone of all but run 0. Place: threshold; from quorum_query_many
+     * the number of runs chosen. Or the wanted weight is 0 or above the weight of all
+     * runs. Place: wanted.
      */
     QUORUM_BAD_THRESHOLD = 2,
     /**
@@ -152,8 +159,8 @@ enum {
     /**
      * An answer is due and the answer buffer is full. The place of 5 to 7 is the
      * number of parts written, from quorum_query_many those of the question that
-     * was stopped. From quorum_lcov_run: a number is due and the row is full;
-     * place: the count written.
+     * was stopped; at 5 of quorum_query_alone all are. From quorum_lcov_run: a number
+     * is due and the row is full; place: the count written.
      */
     QUORUM_ANSWERS_FULL = 5,
     /** A part is due and does not fit the certificate buffer. */
@@ -380,6 +387,55 @@ void quorum_query_many(const uint32_t *numbers, size_t numbers_len,
                        size_t results_len, uint64_t result[QUORUM_MANY_ROW]);
 
 /**
+ * Write the bins of run 0 that fewer than `threshold` of the other runs hold to
+ * `answers`, rising: what a new test, lent as run 0, found alone. They are its bins
+ * that are no answer of the question about runs 1 to ends_len - 1.
+ *
+ * `certificate` receives the certificate of that question. Its answers are what the
+ * other runs hold often enough; no mask has bit 0, and run i is bit i.
+ * quorum_check_chosen accepts it with a mask of all runs but run 0.
+ *
+ * `result` receives what it does from quorum_query: refusal and place, the answers,
+ * parts and bytes written, the doubling and the halving probes made in the other
+ * runs. Refusals 1 to 4 write nothing, and their counts are 0; a threshold above
+ * ends_len - 1 is 2, so one run is always refused; 3 and 4 are for run 0 too.
+ *
+ * The answers are written after the walk of the other runs. After 6 and 7, which end
+ * the walk, its first parts stand and there are no answers: their count is 0, and the
+ * answer buffer is unchanged. After 5 the whole certificate stands, the place being
+ * the number of its parts, and the answer buffer is full of the least answers. Later
+ * places of both buffers are unchanged, also of an accepted call.
+ *
+ * The allowance is as of a question about the other runs, for reading run 0 is no
+ * probe: in a run whose number of bins has b binary digits there are at most
+ * 2 * d * b probes, d being the number of parts of any true certificate of the other
+ * runs. quorum_probe_bound_chosen() with a mask of all runs but run 0 adds these up,
+ * and QUORUM_ENOUGH_PROBES is always enough.
+ *
+ * Cost: one pass over the numbers for the first checks, then the probes and the
+ * writing of the certificate as of a quorum_query about the other runs alone, and one
+ * pass over the certificate and run 0 together.
+ *
+ * Example: which bins of {2, 5, 8, 9} do fewer than two of {2, 5, 9},
+ * {5, 7, 9, 12} and {1, 9} hold?
+ *
+ *     uint32_t tests[] = {2, 5, 8, 9, 2, 5, 9, 5, 7, 9, 12, 1, 9};
+ *     uint32_t test_ends[] = {4, 7, 11, 13};
+ *     uint32_t alone[QUORUM_ENOUGH_ANSWERS(13)];
+ *     uint8_t of_others[QUORUM_ENOUGH_BYTES(13)];
+ *     uint64_t alone_result[QUORUM_QUERY_ROW];
+ *     quorum_query_alone(tests, 13, test_ends, 4, 2, QUORUM_ENOUGH_PROBES,
+ *                        alone, 13, of_others, sizeof of_others, alone_result);
+ *     // alone_result: 0, 0, 2, 6, 106, 3, 0; alone: 2, 8
+ */
+void quorum_query_alone(const uint32_t *numbers, size_t numbers_len,
+                        const uint32_t *ends, size_t ends_len,
+                        uint32_t threshold, uint32_t allowance,
+                        uint32_t *answers, size_t answers_len,
+                        uint8_t *certificate, size_t certificate_len,
+                        uint64_t result[QUORUM_QUERY_ROW]);
+
+/**
  * Decide whether a certificate is true for the runs and `threshold`, whoever
  * wrote it.
  *
@@ -418,12 +474,16 @@ void quorum_check(const uint32_t *numbers, size_t numbers_len,
  * Cost: one pass over the numbers for the first checks, then at most the numbers
  * of the chosen runs + parts * runs steps.
  *
- * Example, after those above: the certificate of the second question.
+ * Example, after those above: the certificate of the second question, and that of
+ * the runs other than run 0.
  *
  *     quorum_check_chosen(numbers, 9, ends, 3, masks[1], thresholds[1],
  *                         certificates + results[1], results[3] - results[1],
  *                         verdict);
  *     // verdict: 0, 0, 2, 5
+ *     quorum_check_chosen(tests, 13, test_ends, 4, 14, 2, of_others,
+ *                         alone_result[QUORUM_QUERY_BYTES], verdict);
+ *     // verdict: 0, 0, 2, 6
  */
 void quorum_check_chosen(const uint32_t *numbers, size_t numbers_len,
                          const uint32_t *ends, size_t ends_len, uint64_t mask,
@@ -514,8 +574,9 @@ void quorum_probe_bound(const uint32_t *ends, size_t ends_len, uint32_t parts,
  * Sum up 2 * parts * (binary digits of the run's length) over the runs that `mask`
  * chooses. If some true certificate of the chosen runs has so many parts, a
  * question about them makes no more probes; an allowance of the sum over all
- * questions is enough for quorum_query_many. The numbers are counted as lent. With
- * all runs chosen this is quorum_probe_bound.
+ * questions is enough for quorum_query_many, and one of this with all runs chosen but
+ * run 0 for quorum_query_alone. The numbers are counted as lent. With all runs chosen
+ * this is quorum_probe_bound.
  *
  * `result` receives refusal and place, and the bound, 0 on a refusal: 1, 13 and 3,
  * the last for the ends of all runs, chosen or not.

@@ -8,8 +8,9 @@ use crate::{bounded, checked, ffi, Checked, Refusal};
 /// The certificate is judged by the chosen runs alone: an answer names at least
 /// `threshold` of them, a gap so many that the other chosen ones are fewer than
 /// `threshold`, and no part names a run that is not chosen. Its masks are in the
-/// numbering of all runs, as [`query_many()`](crate::query_many()) writes them.
-/// With all runs chosen this is [`check()`](crate::check()).
+/// numbering of all runs, as [`query_many()`](crate::query_many()) and
+/// [`query_alone()`](crate::query_alone()) write them; that of the latter is true for
+/// all runs but run 0. With all runs chosen this is [`check()`](crate::check()).
 ///
 /// # Errors
 ///
@@ -66,8 +67,10 @@ pub fn check_chosen(
 /// them.
 ///
 /// An allowance of the sum of the bounds of all its questions is enough for
-/// [`query_many()`](crate::query_many()). The numbers are counted as lent, as by
-/// [`probe_bound()`](crate::probe_bound()), which this is with all runs chosen.
+/// [`query_many()`](crate::query_many()), and one of the bound with all runs chosen
+/// but run 0 for [`query_alone()`](crate::query_alone()). The numbers are counted as
+/// lent, as by [`probe_bound()`](crate::probe_bound()), which this is with all runs
+/// chosen.
 ///
 /// # Errors
 ///

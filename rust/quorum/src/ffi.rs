@@ -48,6 +48,19 @@ extern "C" {
         results_len: usize,
         result: *mut [u64; 8],
     );
+    fn quorum_query_alone(
+        numbers: *const u32,
+        numbers_len: usize,
+        ends: *const u32,
+        ends_len: usize,
+        threshold: u32,
+        allowance: u32,
+        answers: *mut u32,
+        answers_len: usize,
+        certificate: *mut u8,
+        certificate_len: usize,
+        result: *mut [u64; 7],
+    );
     fn quorum_check_chosen(
         numbers: *const u32,
         numbers_len: usize,
@@ -221,6 +234,43 @@ pub fn query_many(
             certificate.len(),
             results.as_mut_ptr(),
             results.len(),
+            &mut result,
+        );
+    }
+    result
+}
+
+/// Returns refusal, place, answers, parts, bytes, doubling probes and halving
+/// probes.
+///
+/// ```
+/// let (mut answers, mut certificate) = ([0; 1], [0; 53]);
+/// // {7, 9} and {7}: the second run does not hold 9.
+/// let row = quorum::ffi::query_alone(&[7, 9, 7], &[2, 3], 1, 0, &mut answers, &mut certificate);
+/// assert_eq!((row, answers), ([0, 0, 1, 3, 53, 0, 0], [9]));
+/// ```
+pub fn query_alone(
+    numbers: &[u32],
+    ends: &[u32],
+    threshold: u32,
+    allowance: u32,
+    answers: &mut [u32],
+    certificate: &mut [u8],
+) -> [u64; 7] {
+    let mut result = [u64::MAX; 7];
+    // SAFETY: as in `query`.
+    unsafe {
+        quorum_query_alone(
+            numbers.as_ptr(),
+            numbers.len(),
+            ends.as_ptr(),
+            ends.len(),
+            threshold,
+            allowance,
+            answers.as_mut_ptr(),
+            answers.len(),
+            certificate.as_mut_ptr(),
+            certificate.len(),
             &mut result,
         );
     }

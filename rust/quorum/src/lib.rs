@@ -5,6 +5,8 @@
 //!   [`query_weighted()`] those of runs that count for more than one.
 //! * [`query_many()`] does so for many questions about the same runs, each about
 //!   some of them; [`finished()`] hands out each question's own.
+//! * [`query_alone()`] writes the bins of the first run that too few of the others
+//!   hold: what a new test found alone.
 //! * [`check()`] decides whether a certificate is true, [`check_chosen()`]
 //!   whether it is for some of the runs, [`check_weighted()`] whether it is for
 //!   runs with weights.
@@ -106,6 +108,7 @@
 #![deny(unsafe_code)]
 #![warn(missing_docs)]
 
+mod alone;
 mod certificate;
 mod chosen;
 #[allow(unsafe_code)]
@@ -117,6 +120,7 @@ mod many;
 mod refusal;
 mod weighted;
 
+pub use alone::query_alone;
 pub use certificate::{parts, Part, Parts, Runs, ANSWER_SIZE, GAP_SIZE, TAG_ANSWER, TAG_GAP};
 pub use chosen::{check_chosen, probe_bound_chosen};
 pub use finished::{finished, Answered, Finished};
@@ -134,9 +138,9 @@ pub use weighted::{check_weighted, query_weighted};
 #[doc = include_str!("../../../README.md")]
 struct Readme;
 
-/// What a query wrote and probed: the result of [`query()`] and of
-/// [`query_weighted()`], and in [`Stopped`]. Of many questions the sums: the result
-/// of [`query_many()`], and in [`StoppedMany`].
+/// What a query wrote and probed: the result of [`query()`], of
+/// [`query_weighted()`] and of [`query_alone()`], and in [`Stopped`]. Of many
+/// questions the sums: the result of [`query_many()`], and in [`StoppedMany`].
 ///
 /// ```
 /// // One run with no numbers: the certificate is one gap.

@@ -42,7 +42,8 @@ pub const LAST_BIN: u32 = u32::MAX;
 /// An allowance that is enough for one question about any runs, with weights or
 /// without: refusal [`ALLOWANCE_SPENT`](crate::Refusal::ALLOWANCE_SPENT) never occurs
 /// with it, nor with a larger one such as `u32::MAX`. Many questions in one call
-/// need at most this for each of them.
+/// need at most this for each of them, and [`query_alone()`](crate::query_alone())
+/// needs at most this too.
 ///
 /// A search moves its run on by at least one number. So in a run of n bins
 /// there are at most n searches, each of at most 2 × b probes, b being the
@@ -62,6 +63,8 @@ pub const ENOUGH_PROBES: u32 = 44_040_192;
 /// numbers, with weights or without: refusal
 /// [`ANSWERS_FULL`](crate::Refusal::ANSWERS_FULL) never occurs (proved). Many
 /// questions in one call need at most this for each of them.
+/// [`query_alone()`](crate::query_alone()) needs at most this of the first run's
+/// numbers.
 ///
 /// ```
 /// assert_eq!(quorum::enough_answers(9), 9);
@@ -78,6 +81,8 @@ pub const fn enough_answers(numbers: usize) -> usize {
 ///
 /// There may be a gap and an answer for each number, and a gap at the end. Many
 /// questions in one call need at most this for each of them.
+/// [`query_alone()`](crate::query_alone()) needs at most this of the other runs'
+/// numbers.
 ///
 /// ```
 /// let mut certificate = [0; quorum::enough_bytes(9)];

@@ -159,8 +159,8 @@ pub fn query_many(
 /// assert_eq!((stopped.question, stopped.finished()), (1, 0));
 /// assert_eq!(
 ///     stopped.to_string(),
-///     "question 1: refusal 2 at 2: the threshold is 0 or above the number of runs, or of \
-///      those chosen; or the wanted weight is 0 or above that of all runs"
+///     "question 1: refusal 2 at 2: the threshold is 0 or above the number of runs that the \
+///      question is about; or the wanted weight is 0 or above that of all runs"
 /// );
 /// ```
 #[derive(Clone, Copy, Debug, PartialEq, Eq, Hash)]

@@ -41,6 +41,10 @@ pub struct Refusal {
 /// and 2 for each question before the next; the parts that its place of 5 to 7
 /// counts are those of the question that was stopped.
 ///
+/// [`query_alone()`](crate::query_alone()) tests 1 to 4 first and in this order, the
+/// threshold against the number of the other runs. 6 and 7 end its walk, and 5 is
+/// tested after that.
+///
 /// [`query_weighted()`](crate::query_weighted()) and
 /// [`check_weighted()`](crate::check_weighted()) test 1, 17, 2, 3 and 4 first and in
 /// this order, and then what [`query()`](crate::query()) and
@@ -67,11 +71,12 @@ impl Refusal {
     /// is the number of runs.
     pub const BAD_RUN_COUNT: u64 = 1;
 
-    /// The threshold is 0 or above the number of runs, or of those that a mask
-    /// chooses; or the wanted weight is 0 or above the weight of all runs. The
-    /// place is the threshold or the wanted weight; from
-    /// [`query_many()`](crate::query_many()) it is the number of runs that the
-    /// question's mask names.
+    /// The threshold is 0 or above the number of runs that the question is about:
+    /// all, those that a mask chooses, or, for
+    /// [`query_alone()`](crate::query_alone()), all but the first. Or the wanted
+    /// weight is 0 or above the weight of all runs. The place is the threshold or the
+    /// wanted weight; from [`query_many()`](crate::query_many()) it is the number of
+    /// runs that the question's mask names.
     pub const BAD_THRESHOLD: u64 = 2;
 
     /// An end is below the one before, the place being its index. Or the last
@@ -88,8 +93,9 @@ impl Refusal {
     pub const NOT_RISING: u64 = 4;
 
     /// One more answer is due and the answer buffer is full. The place is the
-    /// number of parts written. From [`lcov_run()`](crate::lcov_run()): one more
-    /// number is due and the row is full. The place is the count written.
+    /// number of parts written, which from [`query_alone()`](crate::query_alone()) are
+    /// all. From [`lcov_run()`](crate::lcov_run()): one more number is due and the row
+    /// is full. The place is the count written.
     pub const ANSWERS_FULL: u64 = 5;
 
     /// One more part is due and does not fit the rest of the certificate
@@ -150,8 +156,8 @@ impl fmt::Display for Refusal {
         let ground = match self.number {
             Refusal::BAD_RUN_COUNT => "no runs, or more than 64",
             Refusal::BAD_THRESHOLD => {
-                "the threshold is 0 or above the number of runs, or of those chosen; or the \
-                 wanted weight is 0 or above that of all runs"
+                "the threshold is 0 or above the number of runs that the question is about; \
+                 or the wanted weight is 0 or above that of all runs"
             }
             Refusal::BAD_ENDS => {
                 "an end is below the one before, or the last end is not the number of numbers \
@@ -228,7 +234,9 @@ pub struct Stopped {
     /// Why the query stopped.
     pub refusal: Refusal,
     /// What it wrote and probed before, which stands: nothing for refusals 1
-    /// to 4 and 17, the first answers and parts for 5 to 7.
+    /// to 4 and 17, the first answers and parts for 5 to 7. From
+    /// [`query_alone()`](crate::query_alone()) all parts and the first answers for 5,
+    /// the first parts and no answers for 6 and 7.
     pub counts: Counts,
 }
 
@@ -242,7 +250,7 @@ impl fmt::Display for Stopped {
 
 /// Adds what was written before a refusal, if anything was.
 pub(crate) fn tell_written(f: &mut fmt::Formatter<'_>, counts: &Counts) -> fmt::Result {
-    // Each answer has a part, so without parts nothing was written.
+    // No answer is written before a part, so without parts nothing was written.
     if counts.parts == 0 {
         return Ok(());
     }

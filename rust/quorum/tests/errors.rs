@@ -1,8 +1,8 @@
 //! Refusals as errors: their texts, and `?` in functions whose errors differ.
 
 use quorum::{
-    check, lcov_run, parts, probe_bound, query, query_weighted, Checked, Counts, Part, Refusal,
-    Stopped, StoppedRun,
+    check, lcov_run, parts, probe_bound, query, query_alone, query_weighted, Checked, Counts, Part,
+    Refusal, Stopped, StoppedRun,
 };
 use std::collections::BTreeSet;
 use std::error::Error;
@@ -142,6 +142,46 @@ fn stopped_with_weights() {
     };
     assert_eq!(ask(&[1, 1]), Err(bad));
     assert_eq!(bad.to_string(), bad.refusal.to_string());
+}
+
+/// What a run holds alone is written last: the parts stand without an answer where
+/// the walk stopped, and all of them where the answers do not fit.
+#[test]
+fn stopped_alone() {
+    // {2, 5, 8, 9} before the runs.
+    let numbers = [&[2, 5, 8, 9], &NUMBERS[..]].concat();
+    let ends = [4, 7, 11, 13];
+    let ask = |threshold, allowance, room: usize| {
+        let (answers, certificate) = (&mut [0; 4][..room], &mut [0; 325]);
+        query_alone(&numbers, &ends, threshold, allowance, answers, certificate)
+    };
+    let spent = Stopped {
+        counts: Counts {
+            answers: 0,
+            ..SPENT.counts
+        },
+        ..SPENT
+    };
+    assert_eq!(ask(2, 2, 4), Err(spent));
+    let written = "; written before: answers 0, parts 4, bytes 72";
+    assert_eq!(spent.to_string(), format!("{}{written}", spent.refusal));
+
+    let full = ask(2, 3, 1).unwrap_err();
+    let refusal = Refusal {
+        number: Refusal::ANSWERS_FULL,
+        place: 6,
+    };
+    assert_eq!(full.refusal, refusal);
+    let written = "; written before: answers 1, parts 6, bytes 106";
+    assert_eq!(full.to_string(), format!("{refusal}{written}"));
+
+    let bad = ask(4, 3, 4).unwrap_err();
+    let refusal = Refusal {
+        number: Refusal::BAD_THRESHOLD,
+        place: 4,
+    };
+    assert_eq!((bad.refusal, bad.counts), (refusal, Counts::default()));
+    assert_eq!(bad.to_string(), refusal.to_string());
 }
 
 /// A stopped reading of a tracefile tells its refusal once and what it wrote, if

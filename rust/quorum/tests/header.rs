@@ -171,6 +171,20 @@ fn places_of_results() {
     assert_eq!(at(&row, "CHECK_ANSWERS"), 2);
     assert_eq!(at(&row, "CHECK_PARTS"), 5);
 
+    let tests = [2, 5, 8, 9, 2, 5, 9, 5, 7, 9, 12, 1, 9];
+    let (a, c) = (&mut answers, &mut certificate);
+    let row = ffi::query_alone(&tests, &[4, 7, 11, 13], 2, 3, a, c);
+    assert_eq!(row.len(), length("QUERY_ROW"));
+    assert_eq!(at(&row, "QUERY_ANSWERS"), 2);
+    assert_eq!(at(&row, "QUERY_PARTS"), 6);
+    assert_eq!(at(&row, "QUERY_BYTES"), 106);
+    assert_eq!(at(&row, "QUERY_DOUBLINGS"), 3);
+    assert_eq!(at(&row, "QUERY_HALVINGS"), 0);
+    let row = ffi::query_alone(&tests, &[4, 7, 11, 13], 2, 3, &mut [0], c);
+    assert_eq!(at(&row, "REFUSAL"), Refusal::ANSWERS_FULL);
+    assert_eq!(at(&row, "PLACE"), 6);
+    assert_eq!(at(&row, "QUERY_ANSWERS"), 1);
+
     let weights = [3, 1, 1];
     let (a, c) = (&mut answers, &mut certificate);
     let row = ffi::query_weighted(&numbers, &ends, &weights, 3, 2, a, c);
@@ -195,6 +209,18 @@ fn places_of_results() {
     assert_eq!(at(&row, "QUERY_DOUBLINGS"), 4);
     assert_eq!(at(&row, "QUERY_HALVINGS"), 3);
     let row = ffi::query_weighted(&numbers, &tens, &[2, 5], 6, 7, &mut [], &mut certificate);
+    assert_eq!(at(&row, "QUERY_DOUBLINGS"), 4);
+    assert_eq!(at(&row, "QUERY_HALVINGS"), 3);
+    let after_one: Vec<u32> = [&[7][..], &numbers].concat();
+    let ends_after_one = [1, 17, 18];
+    let row = ffi::query_alone(
+        &after_one,
+        &ends_after_one,
+        2,
+        7,
+        &mut [0],
+        &mut certificate,
+    );
     assert_eq!(at(&row, "QUERY_DOUBLINGS"), 4);
     assert_eq!(at(&row, "QUERY_HALVINGS"), 3);
     let row = ffi::query_many(
