@@ -1,6 +1,8 @@
 //! Rows, weights and thresholds that the first checks refuse.
 
-use reference::testing::{any_weights, break_weights, mark_later, Random, Wanted, M};
+use crate::question::Limits;
+use crate::shapes::any_runs;
+use reference::testing::{any_weights, break_weights, lay_out, mark_later, Random, Wanted, M};
 
 /// Returns a threshold: mostly good, at times 0, one above `k` or far too
 /// large.
@@ -37,6 +39,48 @@ pub fn any_broken(random: &mut Random, k: usize, weighted: bool) -> Wanted {
         }
     }
     wanted
+}
+
+/// The rows of up to 65 short runs, broken in one to three ways.
+pub fn any_broken_rows(random: &mut Random) -> (Vec<u32>, Vec<u32>) {
+    let k = random.pick(&[0, 1, 2, 3, 3, 4, 5, 8, 63, 64, 65]);
+    let length = random.below(8);
+    let (mut numbers, mut ends) = lay_out(&any_runs(random, k, length));
+    for _ in 0..random.from_to(1, 3) {
+        break_rows(random, &mut numbers, &mut ends);
+    }
+    (numbers, ends)
+}
+
+/// Limits that a short walk may reach or not.
+pub fn any_limits(random: &mut Random) -> Limits {
+    Limits {
+        allowance: random.pick(&[0, 1, 5, M]),
+        answers: random.below(20),
+        bytes: random.below(300),
+    }
+}
+
+/// Any rows at all, of small numbers. In half of all cases the ends fit.
+pub fn noise_rows(random: &mut Random) -> (Vec<u32>, Vec<u32>) {
+    let mut numbers: Vec<u32> = (0..random.below(7)).map(|_| any_small(random)).collect();
+    if random.one_in(4) {
+        numbers.splice(0..0, vec![0; random.from_to(1, 4)]);
+    }
+    let mut ends: Vec<u32> = (0..random.below(4)).map(|_| any_small(random)).collect();
+    if random.one_in(2) {
+        ends.sort_unstable();
+        ends.push(numbers.len() as u32);
+    }
+    (numbers, ends)
+}
+
+/// A number up to 5, at times any.
+pub fn any_small(random: &mut Random) -> u32 {
+    match random.below(12) {
+        0 => random.word(),
+        n => n as u32 / 2,
+    }
 }
 
 /// Breaks the rows in one way. They may still pass the first checks.

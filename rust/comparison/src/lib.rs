@@ -7,6 +7,7 @@
 #![forbid(unsafe_code)]
 #![warn(missing_docs)]
 
+pub mod alone;
 pub mod between;
 pub mod broken;
 pub mod certificates;

@@ -3,11 +3,11 @@
 
 use crate::lent::{noise, Lent};
 use crate::met::Refusals;
-use crate::question::{counts_of, limits_near, Buffers, Limits};
+use crate::question::{counts_of, limits_near, needed, written, Buffers, Limits, Written};
 use crate::Row;
-use quorum::{finished, Answered, Counts, Refusal, StoppedMany};
+use quorum::{finished, Answered, Counts, Refusal, Stopped, StoppedMany};
 use reference::testing::{lay_out, many_row, Random};
-use reference::{all_runs, trace_by, Part, Weighting};
+use reference::{all_runs, trace_by, Weighting};
 use std::fmt;
 
 /// The runs and the questions of a call.
@@ -240,13 +240,49 @@ pub fn whole(call: &Call) -> Option<Limits> {
     };
     for (&mask, &threshold) in masks.iter().zip(thresholds) {
         let walk = trace_by(numbers, ends, Weighting::Chosen(mask), threshold).ok()?;
-        let is_answer = |part: &&Part| matches!(part, Part::Answer { .. });
-        let answers = walk.parts.iter().filter(is_answer).count();
-        whole.allowance += walk.all_probes().total() as u32;
-        whole.answers += answers;
-        whole.bytes += 19 * walk.parts.len() - 4 * answers;
+        let own = needed(&walk);
+        whole.allowance += own.allowance;
+        whole.answers += own.answers;
+        whole.bytes += own.bytes;
     }
     Some(whole)
+}
+
+/// Asks the library one question about the runs that the mask chooses, in a call of
+/// many and in buffers of its own.
+///
+/// # Panics
+///
+/// If the row of results or the question's index is wrong.
+pub fn ask_one<R: AsRef<[u32]>>(runs: &[R], mask: u64, threshold: u32, limits: Limits) -> Written {
+    const FILLER: [u64; 2] = [7; 2];
+    let (numbers, ends) = lay_out(runs);
+    let mut results = FILLER;
+    let found = written(limits, |answers, certificate| {
+        let result = quorum::query_many(
+            &numbers,
+            &ends,
+            &[mask],
+            &[threshold],
+            limits.allowance,
+            answers,
+            certificate,
+            &mut results,
+        );
+        result.map_err(|stopped| {
+            assert_eq!(stopped.question, 0);
+            Stopped {
+                refusal: stopped.refusal,
+                counts: stopped.counts,
+            }
+        })
+    });
+    let expected = match found.0 {
+        Ok(counts) => [counts.answers as u64, counts.bytes as u64],
+        Err(_) => FILLER,
+    };
+    assert_eq!(results, expected);
+    found
 }
 
 /// A mask of at least one of `k` runs, `k` above 0: of all, of one, of all but

@@ -49,6 +49,69 @@ impl<'a> Question<'a> {
     }
 }
 
+/// What can be asked of both sides with the limits of a query. Its text tells it in
+/// a failure.
+pub trait Asked: Copy + fmt::Debug {
+    /// Asks the reference.
+    fn expect(
+        self,
+        allowance: u32,
+        answers: &mut [u32],
+        certificate: &mut [u8],
+    ) -> reference::Outcome;
+
+    /// Asks the library.
+    fn ask(
+        self,
+        allowance: u32,
+        answers: &mut [u32],
+        certificate: &mut [u8],
+    ) -> Result<Counts, Stopped>;
+
+    /// The same with the row that the C interface writes.
+    fn ask_row(self, allowance: u32, answers: &mut [u32], certificate: &mut [u8]) -> [u64; 7];
+
+    /// Exactly what the whole walk and its answers need; `None` if the first checks
+    /// refuse.
+    fn whole(self) -> Option<Limits>;
+}
+
+impl Asked for Question<'_> {
+    fn expect(
+        self,
+        allowance: u32,
+        answers: &mut [u32],
+        certificate: &mut [u8],
+    ) -> reference::Outcome {
+        reference::query_by(
+            self.numbers,
+            self.ends,
+            self.weighting,
+            self.threshold,
+            allowance,
+            answers,
+            certificate,
+        )
+    }
+
+    fn ask(
+        self,
+        allowance: u32,
+        answers: &mut [u32],
+        certificate: &mut [u8],
+    ) -> Result<Counts, Stopped> {
+        ask(self, allowance, answers, certificate)
+    }
+
+    fn ask_row(self, allowance: u32, answers: &mut [u32], certificate: &mut [u8]) -> [u64; 7] {
+        ask_row(self, allowance, answers, certificate)
+    }
+
+    fn whole(self) -> Option<Limits> {
+        whole(self)
+    }
+}
+
 /// What a query is lent: probes, places for answers, certificate bytes.
 #[derive(Clone, Copy, Debug)]
 pub struct Limits {
@@ -169,7 +232,8 @@ pub struct Comparer {
 }
 
 impl Comparer {
-    /// Compares what [`quorum::query`] or [`quorum::query_weighted`] returns.
+    /// Compares what [`quorum::query`], [`quorum::query_weighted`] or
+    /// [`quorum::query_alone`] returns.
     pub fn new() -> Self {
         Comparer::default()
     }
@@ -194,14 +258,15 @@ impl Comparer {
 
     /// Asks both sides and compares what they return and the whole of both
     /// buffers with their margins. Returns the outcome.
-    pub fn compare(&mut self, seed: u64, question: Question, limits: Limits) -> reference::Outcome {
+    pub fn compare(
+        &mut self,
+        seed: u64,
+        question: impl Asked,
+        limits: Limits,
+    ) -> reference::Outcome {
         self.found.fill(limits, seed);
         self.expected.fill(limits, seed);
-        let expected = reference::query_by(
-            question.numbers,
-            question.ends,
-            question.weighting,
-            question.threshold,
+        let expected = question.expect(
             limits.allowance,
             self.expected.answers.lend(),
             self.expected.certificate.lend(),
@@ -211,15 +276,20 @@ impl Comparer {
         let allowance = limits.allowance;
         let context = || format!("seed {seed}: {limits:?}, {question:?}");
         if self.rows {
-            let row = ask_row(question, allowance, answers, certificate);
+            let row = question.ask_row(allowance, answers, certificate);
             assert_eq!(row, row_of(expected), "{}", context());
         } else {
-            let result = ask(question, allowance, answers, certificate);
+            let result = question.ask(allowance, answers, certificate);
             assert_eq!(result, result_of(expected), "{}", context());
         }
         self.found.compare(&self.expected, context);
         self.seen.count(row_of(expected)[0]);
         expected
+    }
+
+    /// Both buffers as the library left them in the last comparison.
+    pub fn found(&self) -> (&[u32], &[u8]) {
+        (self.found.answers.read(), self.found.certificate.read())
     }
 
     /// Asks the library two questions that come to the same, and compares what
@@ -241,8 +311,8 @@ impl Comparer {
 
     /// Asks with limits of every kind: exact, one short, one more, tiny, ample
     /// and random ones. If the first checks refuse, asks once.
-    pub fn compare_limits(&mut self, seed: u64, random: &mut Random, question: Question) {
-        let Some(whole) = whole(question) else {
+    pub fn compare_limits(&mut self, seed: u64, random: &mut Random, question: impl Asked) {
+        let Some(whole) = question.whole() else {
             let limits = Limits {
                 allowance: random.pick(&[0, 1, u32::MAX]),
                 answers: random.below(4),
@@ -291,6 +361,31 @@ fn ask_row(
     }
 }
 
+/// What a question returns, its answers and its certificate.
+pub type Written = (Result<Counts, Stopped>, Vec<u32>, Vec<u8>);
+
+/// Asks the library about some runs, in buffers of its own.
+pub fn ask_runs<R: AsRef<[u32]>>(runs: &[R], threshold: u32, limits: Limits) -> Written {
+    let (numbers, ends) = lay_out(runs);
+    let question = Question::plain(&numbers, &ends, threshold);
+    written(limits, |answers, certificate| {
+        ask(question, limits.allowance, answers, certificate)
+    })
+}
+
+/// What a call into new buffers returns, and what it wrote.
+pub(crate) fn written(
+    limits: Limits,
+    call: impl FnOnce(&mut [u32], &mut [u8]) -> Result<Counts, Stopped>,
+) -> Written {
+    let (mut answers, mut certificate) = (vec![0; limits.answers], vec![0; limits.bytes]);
+    let result = call(&mut answers, &mut certificate);
+    let counts = result.unwrap_or_else(|stopped| stopped.counts);
+    answers.truncate(counts.answers);
+    certificate.truncate(counts.bytes);
+    (result, answers, certificate)
+}
+
 /// The reference's whole walk, or its refusal.
 pub fn walk_of(question: Question) -> Result<reference::Trace, reference::Refusal> {
     reference::trace_by(
@@ -303,14 +398,18 @@ pub fn walk_of(question: Question) -> Result<reference::Trace, reference::Refusa
 
 /// Exactly what the whole walk needs; `None` if the first checks refuse.
 pub fn whole(question: Question) -> Option<Limits> {
-    let trace = walk_of(question).ok()?;
+    walk_of(question).ok().map(|walk| needed(&walk))
+}
+
+/// Exactly what a whole walk needs.
+pub(crate) fn needed(walk: &reference::Trace) -> Limits {
     let is_answer = |part: &&reference::Part| matches!(part, reference::Part::Answer { .. });
-    let answers = trace.parts.iter().filter(is_answer).count();
-    Some(Limits {
-        allowance: trace.all_probes().total() as u32,
+    let answers = walk.parts.iter().filter(is_answer).count();
+    Limits {
+        allowance: walk.all_probes().total() as u32,
         answers,
-        bytes: 19 * trace.parts.len() - 4 * answers,
-    })
+        bytes: 19 * walk.parts.len() - 4 * answers,
+    }
 }
 
 /// Limits of every kind for a call that needs `whole`.

@@ -1,6 +1,7 @@
 //! Random runs of several shapes.
 
 use reference::testing::{mark_some, Random, M};
+use reference::MAX_NUMBERS;
 
 /// How the numbers of the runs lie to one another.
 #[derive(Clone, Copy, Debug)]
@@ -55,6 +56,15 @@ fn changed_runs(
     let mut runs = placed_runs(random, shape, k, length);
     change(random, &mut runs);
     mark_some(random, &mut runs);
+    runs
+}
+
+/// Returns `k` runs of a shape, which have as many numbers in all as are allowed;
+/// the last run makes up for what the others leave.
+pub fn full_runs(random: &mut Random, shape: Shape, k: usize) -> Vec<Vec<u32>> {
+    let mut runs = shaped_runs(random, shape, k, 3 * MAX_NUMBERS / (4 * k));
+    let others: usize = runs[..k - 1].iter().map(Vec::len).sum();
+    runs[k - 1] = (0..).step_by(3).take(MAX_NUMBERS - others).collect();
     runs
 }
 

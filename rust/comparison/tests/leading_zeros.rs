@@ -2,10 +2,11 @@
 //! number of them about blocks of 64 numbers, a fault at every place after them,
 //! and as many as a row may have. All calls that are lent runs are compared.
 
+use comparison::alone::Alone;
 use comparison::between;
 use comparison::certificates::Task;
 use comparison::many::{self, Call};
-use comparison::question::{whole, Comparer, Limits, Question};
+use comparison::question::{whole, Asked, Comparer, Limits, Question};
 use comparison::verdicts::{walks_own, Seen};
 use reference::testing::{gap, lay_out, marked, slices, Wanted, M};
 use reference::{all_runs, bins, encode, first_checks, Refusal, MAX_NUMBERS, MAX_RUNS};
@@ -20,6 +21,7 @@ const SOME: Limits = Limits {
 /// Both sides of all calls that are lent runs.
 struct Calls {
     single: [Comparer; 2],
+    alone: [Comparer; 2],
     many: [many::Comparer; 2],
     checked: Seen,
 }
@@ -28,14 +30,15 @@ impl Calls {
     fn new() -> Self {
         Calls {
             single: [Comparer::new(), Comparer::of_rows()],
+            alone: [Comparer::new(), Comparer::of_rows()],
             many: [many::Comparer::new(), many::Comparer::of_rows()],
             checked: Seen::default(),
         }
     }
 
-    /// Compares a question, the same with weights, many questions, checks for all
-    /// runs, by weight and for chosen runs, and parts of each run. Returns the
-    /// refusal of the first checks, which all of these make.
+    /// Compares a question, the same with weights, many questions, what the first
+    /// run holds alone, checks for all runs, by weight and for chosen runs, and parts
+    /// of each run. Returns the refusal of the first checks, which all of these make.
     fn compare(&mut self, runs: &[Vec<u32>], threshold: u32) -> Option<Refusal> {
         let (numbers, ends) = lay_out(runs);
         let refusal = first_checks(&numbers, &ends, threshold).err();
@@ -50,6 +53,12 @@ impl Calls {
             self.compare_checks(runs, question, refusal.is_none());
         }
         self.compare_many(runs, threshold);
+        let of_others = threshold.min(runs.len() as u32 - 1);
+        let question = Alone::new(&numbers, &ends, of_others);
+        let limits = question.whole().unwrap_or(SOME);
+        for comparer in &mut self.alone {
+            comparer.compare(0, question, limits);
+        }
         for run in runs {
             for (first, last) in [(0, M), (0, 0), (1, 9), (M, M)] {
                 between::compare(0, run, first, last);

@@ -2,61 +2,14 @@
 //! runs is that, and any other is that of its chosen runs alone, but for the
 //! numbering of its masks. And against the bound over its chosen runs.
 
-use comparison::many::{any_choice, result_of, whole, Call, Comparer};
-use comparison::question::{self, whole as whole_single, Limits, Question};
+use comparison::many::{any_choice, ask_one, result_of, whole, Call, Comparer};
+use comparison::question::{ask_runs, whole as whole_single, Limits, Question};
 use comparison::seeds;
 use comparison::shapes::any_runs;
 use comparison::verdicts::Seen;
-use quorum::{enough_answers, enough_bytes, probe_bound, probe_bound_chosen, Counts, Stopped};
+use quorum::{enough_answers, enough_bytes, probe_bound, probe_bound_chosen, Counts};
 use reference::testing::{choose, lay_out, renumber, slices, Random};
 use reference::{all_runs, decode, encode, is_true_by, Weighting};
-
-/// What a single question returns, its answers and its certificate.
-type Single = (Result<Counts, Stopped>, Vec<u32>, Vec<u8>);
-
-/// Asks the library a single question about some runs.
-fn ask<R: AsRef<[u32]>>(runs: &[R], threshold: u32, limits: Limits) -> Single {
-    let (numbers, ends) = lay_out(runs);
-    let (mut answers, mut certificate) = (vec![0; limits.answers], vec![0; limits.bytes]);
-    let question = Question::plain(&numbers, &ends, threshold);
-    let result = question::ask(question, limits.allowance, &mut answers, &mut certificate);
-    let counts = result.unwrap_or_else(|stopped| stopped.counts);
-    answers.truncate(counts.answers);
-    certificate.truncate(counts.bytes);
-    (result, answers, certificate)
-}
-
-/// Asks the library one question about all runs, in a call of many.
-fn ask_in_a_row<R: AsRef<[u32]>>(runs: &[R], threshold: u32, limits: Limits) -> Single {
-    let (numbers, ends) = lay_out(runs);
-    let (mut answers, mut certificate) = (vec![0; limits.answers], vec![0; limits.bytes]);
-    let mut results = [7; 2];
-    let result = quorum::query_many(
-        &numbers,
-        &ends,
-        &[all_runs(runs.len())],
-        &[threshold],
-        limits.allowance,
-        &mut answers,
-        &mut certificate,
-        &mut results,
-    );
-    let (counts, expected) = match result {
-        Ok(counts) => (counts, [counts.answers as u64, counts.bytes as u64]),
-        Err(stopped) => (stopped.counts, [7; 2]),
-    };
-    assert_eq!(results, expected);
-    answers.truncate(counts.answers);
-    certificate.truncate(counts.bytes);
-    let result = result.map_err(|stopped| {
-        assert_eq!(stopped.question, 0);
-        Stopped {
-            refusal: stopped.refusal,
-            counts: stopped.counts,
-        }
-    });
-    (result, answers, certificate)
-}
 
 #[test]
 fn one_question_about_all_runs() {
@@ -79,8 +32,8 @@ fn one_question_about_all_runs() {
             ..exact
         };
         for limits in [exact, cut, spent] {
-            let single = ask(&runs, threshold, limits);
-            let one = ask_in_a_row(&runs, threshold, limits);
+            let single = ask_runs(&runs, threshold, limits);
+            let one = ask_one(&runs, all_runs(k), threshold, limits);
             assert_eq!(one, single, "seed {seed}: {question:?}");
             stopped += u64::from(single.0.is_err());
         }
@@ -106,7 +59,7 @@ fn compare_alone(seed: u64, runs: &[Vec<u32>], call: &Call, seen: &mut Seen) {
     let mut bounds = 0;
     for ((question, &mask), &threshold) in all.iter().zip(&call.masks).zip(&call.thresholds) {
         let chosen = choose(runs, mask);
-        let (alone, answers, certificate) = ask(&chosen, threshold, ample);
+        let (alone, answers, certificate) = ask_runs(&chosen, threshold, ample);
         let alone = alone.unwrap();
         assert_eq!(question.answers, answers, "{}", context());
         let renumbered = renumber(&decode(&certificate).unwrap(), mask);
@@ -208,7 +161,7 @@ fn finished_before_a_stop() {
             let number = seen.compare(seed, single, question.certificate);
             assert_eq!(number, 0, "seed {seed}: {call:?}");
             let chosen = choose(&runs, call.masks[i]);
-            let whole = ask(&chosen, call.thresholds[i], exact);
+            let whole = ask_runs(&chosen, call.thresholds[i], exact);
             assert_eq!(question.answers, whole.1, "seed {seed}: {call:?}");
         }
     }

@@ -1,12 +1,12 @@
 //! Random queries of every kind, and all small ones, without weights and with
 //! them: outcomes, places, counts and the whole of both buffers.
 
-use comparison::broken::{any_broken, break_rows};
+use comparison::broken::{any_broken, any_broken_rows, any_limits, any_small, noise_rows};
 use comparison::question::{self, whole, Comparer, Limits, Question};
 use comparison::seeds;
-use comparison::shapes::{any_runs, shaped_runs, SHAPES};
+use comparison::shapes::{any_runs, full_runs, SHAPES};
 use reference::testing::{any_weights, lay_out, small_inputs, Random, Wanted, M};
-use reference::Weighting;
+use reference::{Weighting, MAX_NUMBERS};
 
 /// Asks about random runs with limits of every kind.
 fn compare_random(
@@ -136,19 +136,10 @@ fn first_checks() {
         let mut comparer = Comparer::new();
         for seed in seeds(7, 60_000) {
             let mut random = Random(seed);
-            let k = random.pick(&[0, 1, 2, 3, 3, 4, 5, 8, 63, 64, 65]);
-            let length = random.below(8);
-            let (mut numbers, mut ends) = lay_out(&any_runs(&mut random, k, length));
-            for _ in 0..random.from_to(1, 3) {
-                break_rows(&mut random, &mut numbers, &mut ends);
-            }
+            let (numbers, ends) = any_broken_rows(&mut random);
             let wanted = any_broken(&mut random, ends.len(), weighted);
             let question = Question::wanting(&numbers, &ends, &wanted);
-            let limits = Limits {
-                allowance: random.pick(&[0, 1, 5, M]),
-                answers: random.below(20),
-                bytes: random.below(300),
-            };
+            let limits = any_limits(&mut random);
             comparer.compare(seed, question, limits);
         }
         comparer.met(&[0, 1, 2, 3, 4, 5, 6, 7], 100);
@@ -162,34 +153,22 @@ fn noise() {
     let mut comparer = Comparer::of_rows();
     for seed in seeds(8, 160_000) {
         let mut random = Random(seed);
-        let small = |random: &mut Random| match random.below(12) {
-            0 => random.word(),
-            n => n as u32 / 2,
-        };
-        let mut numbers: Vec<u32> = (0..random.below(7)).map(|_| small(&mut random)).collect();
-        if random.one_in(4) {
-            numbers.splice(0..0, vec![0; random.from_to(1, 4)]);
-        }
-        let mut ends: Vec<u32> = (0..random.below(4)).map(|_| small(&mut random)).collect();
-        if random.one_in(2) {
-            ends.sort_unstable();
-            ends.push(numbers.len() as u32);
-        }
+        let (numbers, ends) = noise_rows(&mut random);
         let threshold = match random.one_in(2) {
-            true => small(&mut random),
+            true => any_small(&mut random),
             false => random.from_to(1, ends.len().max(1)) as u32,
         };
         let length = match random.one_in(4) {
             true => random.below(5),
             false => ends.len(),
         };
-        let weights: Vec<u32> = (0..length).map(|_| small(&mut random)).collect();
+        let weights: Vec<u32> = (0..length).map(|_| any_small(&mut random)).collect();
         let mut question = Question::plain(&numbers, &ends, threshold);
         if random.one_in(2) {
             question.weighting = Weighting::Given(&weights);
         }
         let limits = Limits {
-            allowance: small(&mut random),
+            allowance: any_small(&mut random),
             answers: random.below(4),
             bytes: random.below(90),
         };
@@ -212,16 +191,11 @@ fn rows_of_the_c_interface() {
 /// Exactly as many numbers as are allowed, and one more.
 #[test]
 fn most_numbers() {
-    const MOST: usize = 1_048_576;
     let mut comparer = Comparer::new();
     for (seed, shape) in seeds(10, 6).zip(SHAPES) {
         let mut random = Random(seed);
         let k = random.pick(&[2, 7, 64]);
-        // A little fewer at first; the last run fills up the rest.
-        let mut runs = shaped_runs(&mut random, shape, k, 3 * MOST / (4 * k));
-        let others: usize = runs[..k - 1].iter().map(Vec::len).sum();
-        runs[k - 1] = (0..).step_by(3).take(MOST - others).collect();
-        let (mut numbers, mut ends) = lay_out(&runs);
+        let (mut numbers, mut ends) = lay_out(&full_runs(&mut random, shape, k));
         let weights = any_weights(&mut random, k);
         for wanted in [
             Wanted::plain(1),
@@ -235,7 +209,7 @@ fn most_numbers() {
             comparer.compare(seed, question, whole);
         }
         numbers.push(M);
-        for last_end in [MOST, MOST + 1] {
+        for last_end in [MAX_NUMBERS, MAX_NUMBERS + 1] {
             ends[k - 1] = last_end as u32;
             for wanted in [Wanted::plain(1), Wanted::weighted(&weights, 1)] {
                 let question = Question::wanting(&numbers, &ends, &wanted);
