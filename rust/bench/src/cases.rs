@@ -1,5 +1,6 @@
 //! The cases of the tables: a shape of input, a number of runs and a
-//! threshold, perhaps with zeros before each run or with weights; or a tracefile.
+//! threshold, perhaps with zeros before each run or with weights, or asked about the
+//! first run; or a tracefile.
 
 use crate::inputs::{self, Input, NUMBERS};
 use crate::tracefiles;
@@ -103,6 +104,18 @@ impl fmt::Display for Weighted {
     }
 }
 
+/// One line of the table about what the first run holds alone; the threshold is of
+/// the other runs. [`Display`](fmt::Display) gives its name, as `alone, dense k=8
+/// t=2`.
+#[derive(Clone, Copy)]
+pub struct Alone(pub Case);
+
+impl fmt::Display for Alone {
+    fn fmt(&self, f: &mut fmt::Formatter<'_>) -> fmt::Result {
+        write!(f, "alone, {}", self.0)
+    }
+}
+
 /// A shape's name, its input of so many runs and numbers, and the numbers of runs
 /// that it is tried with.
 type Shape = (&'static str, fn(usize, usize) -> Input, &'static [usize]);
@@ -136,6 +149,13 @@ const WEIGHTED: [Shape; 5] = [
     ("nearly disjoint", inputs::nearly_disjoint, &[8, 60, 64]),
     ("blocks", inputs::blocks, &[8, 60, 64]),
     ("skewed", inputs::skewed, &[2]),
+];
+
+const ALONE: [Shape; 4] = [
+    ("dense", inputs::dense, &[2, 8, 64]),
+    ("sparse", inputs::sparse, &[2, 8, 64]),
+    ("nearly disjoint", inputs::nearly_disjoint, &[2, 8, 64]),
+    ("blocks", inputs::blocks, &[2, 8, 64]),
 ];
 
 /// The cases of the first table, in which queries are timed.
@@ -178,6 +198,15 @@ pub fn weighted() -> Vec<Weighted> {
     cases.flat_map(with_weights).collect()
 }
 
+/// The cases of the sixth table, in which is timed what the first run holds alone.
+pub fn alone() -> Vec<Alone> {
+    let of_others = |k| match k {
+        2 => vec![1],
+        _ => all_thresholds(k - 1),
+    };
+    cases(&ALONE, of_others).into_iter().map(Alone).collect()
+}
+
 fn cases(shapes: &[Shape], thresholds: fn(usize) -> Vec<usize>) -> Vec<Case> {
     let mut cases = Vec::new();
     for &(shape, input, runs) in shapes {
@@ -205,6 +234,12 @@ impl AsRef<Case> for Weighted {
     }
 }
 
+impl AsRef<Case> for Alone {
+    fn as_ref(&self) -> &Case {
+        &self.0
+    }
+}
+
 /// The cases with their inputs, each of which is made once for all cases that
 /// follow one another with it.
 pub fn with_inputs<C: AsRef<Case>>(cases: &[C]) -> impl Iterator<Item = (&[C], Input)> {
@@ -226,6 +261,8 @@ pub struct Selected {
     /// Those of the fifth table.
     pub weighted: Vec<Weighted>,
     /// Those of the sixth table.
+    pub alone: Vec<Alone>,
+    /// Those of the seventh table.
     pub read: Vec<tracefiles::Case>,
 }
 
@@ -239,16 +276,18 @@ pub fn select(substring: &str) -> Result<Selected, String> {
         asked_together: having(substring, asked_together()),
         half_zeros: having(substring, half_zeros()),
         weighted: having(substring, weighted()),
+        alone: having(substring, alone()),
         read: having(substring, tracefiles::cases()),
     };
     let Selected {
         queried,
         half_zeros,
         weighted,
+        alone,
         read,
         ..
     } = &selected;
-    let is_none = queried.is_empty() && half_zeros.is_empty();
+    let is_none = queried.is_empty() && half_zeros.is_empty() && alone.is_empty();
     if is_none && weighted.is_empty() && read.is_empty() {
         return Err(format!(
             "no case has `{substring}` in its name; there are\n{}",
@@ -270,6 +309,7 @@ fn all_names() -> Vec<String> {
         names(&queried()),
         names(&half_zeros()),
         names(&weighted()),
+        names(&alone()),
         names(&tracefiles::cases()),
     ]
     .concat()
@@ -291,6 +331,7 @@ mod tests {
         let counts = [&all.queried, &all.checked, &all.asked_together].map(Vec::len);
         assert_eq!(counts, [46, 12, 4]);
         assert_eq!((all.half_zeros.len(), all.weighted.len()), (4, 114));
+        assert_eq!(all.alone.len(), 36);
         assert_eq!(
             names(&all.queried)[..3],
             ["dense k=2 t=1", "dense k=2 t=2", "dense k=8 t=1"]
@@ -324,6 +365,18 @@ mod tests {
         assert_eq!(names(&some.asked_together), ["dense k=64 t=32"]);
         assert_eq!(names(&some.half_zeros), ["half zeros, dense k=64 t=32"]);
         assert!(some.weighted.is_empty() && some.read.is_empty());
+        assert_eq!(
+            names(&some.alone),
+            [
+                "alone, dense k=64 t=1",
+                "alone, dense k=64 t=2",
+                "alone, dense k=64 t=31",
+                "alone, dense k=64 t=63"
+            ]
+        );
+        let alone = select("alone, sparse k=2").unwrap();
+        assert_eq!(names(&alone.alone), ["alone, sparse k=2 t=1"]);
+        assert!(alone.queried.is_empty() && alone.weighted.is_empty());
         let one = select("skewed k=2 t=2").unwrap();
         assert_eq!(names(&one.queried), ["skewed k=2 t=2"]);
         assert!(one.checked.is_empty() && one.asked_together.is_empty());
@@ -374,6 +427,7 @@ mod tests {
             names(&queried()),
             names(&half_zeros()),
             names(&weighted()),
+            names(&alone()),
             TRACEFILES.map(str::to_string).to_vec(),
         ];
         assert!(lines.eq(all.concat()));
@@ -401,5 +455,8 @@ mod tests {
         let cases = select("skewed").unwrap().weighted;
         let groups: Vec<usize> = with_inputs(&cases).map(|(group, _)| group.len()).collect();
         assert_eq!(groups, [2]);
+        let cases = select("alone, blocks").unwrap().alone;
+        let groups: Vec<usize> = with_inputs(&cases).map(|(group, _)| group.len()).collect();
+        assert_eq!(groups, [1, 4, 4]);
     }
 }

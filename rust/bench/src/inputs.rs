@@ -37,6 +37,15 @@ impl Input {
         self
     }
 
+    /// The same runs but the first.
+    pub fn without_first(&self) -> Self {
+        let first = self.ends[0];
+        Input {
+            numbers: self.numbers[first as usize..].to_vec(),
+            ends: self.ends[1..].iter().map(|end| end - first).collect(),
+        }
+    }
+
     /// The same runs, each after as many zeros as it has numbers.
     pub fn after_zeros(&self) -> Self {
         let starts = [0].into_iter().chain(self.ends.iter().copied());
@@ -146,6 +155,17 @@ mod tests {
             }
             let Input { numbers, ends } = nearly_disjoint(k, 1_000);
             assert_eq!((numbers.len(), ends.len()), (1_000, k));
+        }
+    }
+
+    #[test]
+    fn without_first() {
+        for shape in [dense, sparse, nearly_disjoint, blocks] {
+            let all = shape(4, 1_000);
+            let others = all.without_first();
+            assert_eq!(others.ends.len(), 3);
+            let runs = split_runs(&all.numbers, &all.ends);
+            assert_eq!(split_runs(&others.numbers, &others.ends)[..3], runs[1..4]);
         }
     }
 

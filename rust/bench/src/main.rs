@@ -1,9 +1,10 @@
 //! Times the library on 1,048,576 numbers beside the reference walk, heap
 //! merges with counting and a sort with counting, a check of the walk's own
 //! certificate beside the query, many questions in one call beside as many calls,
-//! the same with as many zeros before the bins beside the bins alone, and queries
-//! and checks by weight beside those without weights; and on tracefiles of
-//! 100,000,000 bytes beside the same reader in Rust.
+//! the same with as many zeros before the bins beside the bins alone, queries and
+//! checks by weight beside those without weights, and what the first run holds alone
+//! beside a query of the other runs; and on tracefiles of 100,000,000 bytes beside the
+//! same reader in Rust.
 //!
 //!     cargo run --release -p bench -- [--only SUBSTRING] [--reps N] [--help]
 //!
@@ -11,6 +12,7 @@
 
 #![forbid(unsafe_code)]
 
+mod alone;
 mod baselines;
 mod cases;
 mod checking;
@@ -21,6 +23,7 @@ mod options;
 mod ordered;
 mod querying;
 mod reading;
+mod row;
 mod tracefiles;
 mod weighing;
 mod zeros;
@@ -62,6 +65,7 @@ fn main() -> ExitCode {
     tables.print(&selected.asked_together, repetitions, many::report);
     tables.print(&selected.half_zeros, repetitions, zeros::report);
     tables.print(&selected.weighted, repetitions, weighing::report);
+    tables.print(&selected.alone, repetitions, alone::report);
     tables.print(&selected.read, repetitions, reading::report);
     ExitCode::SUCCESS
 }

@@ -8,19 +8,20 @@ pub const HELP: &str = "
 Times the library on 1,048,576 numbers beside other ways to the answers, checks
 of certificates beside queries, many questions in one call beside as many calls
 and with zeros before the bins beside the bins alone, queries and checks by weight
-beside those without weights, and the reading of tracefiles of 100,000,000 bytes.
-Standard output has the six tables.
+beside those without weights, what the first run holds alone beside a query of the
+other runs, and the reading of tracefiles of 100,000,000 bytes.
+Standard output has the seven tables.
 
   --only SUBSTRING  measure the cases whose name, as `dense k=8 t=2`,
-                    `half zeros, dense k=64 t=32`, `weights all 1, dense k=8 wanted=2`
-                    or `tracefile, one section`, has this
+                    `half zeros, dense k=64 t=32`, `weights all 1, dense k=8 wanted=2`,
+                    `alone, dense k=8 t=2` or `tracefile, one section`, has this
   --reps N          repetitions, 1 or more, of which the median counts; 9 if not given
   --help            print this
 
-Columns of the first five tables, of which the fifth has no t:
+Columns of the first six tables, of which the fifth has no t:
   case            shape of the input
   k               number of runs; where 60 are equally long they have 1,048,560 numbers
-  t               threshold
+  t               threshold; of the other runs where the first is asked about
   parts           parts of the certificate; of all certificates where there are many
                   questions
 
@@ -71,7 +72,14 @@ Columns of the fifth table, queries by weight and checks of their certificates:
                   weights
   check/query     time of the check divided by that of the query
 
-Columns of the sixth table, the last section of a tracefile read as a run:
+Columns of the sixth table, what the first run holds and fewer than t of the others:
+  answers         bins that it holds alone
+  alone ms        time of the question, in milliseconds
+  plain ms        time of the query of the other runs without it, in milliseconds
+  alone/plain     time of the question divided by that of the query
+  alone/same      the same for the library's own way in Rust
+
+Columns of the seventh table, the last section of a tracefile read as a run:
   case            which tracefile: one of many sections, or of one with all its records
   sections        number of sections
   numbers         numbers of the run

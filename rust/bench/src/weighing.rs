@@ -2,9 +2,10 @@
 //! library's own way in Rust.
 
 use crate::cases::{self, Weighted, Weights};
-use crate::inputs::{Input, NUMBERS};
+use crate::inputs::Input;
+use crate::row::Row;
 use crate::{median, ordered, timed};
-use quorum::{enough_answers, enough_bytes, Checked, Counts};
+use quorum::Checked;
 use std::time::Duration;
 
 /// Prints the table of the cases.
@@ -57,32 +58,6 @@ struct Times {
     weighted: [Duration; 3],
     /// The query and the check without weights, where the question is the same.
     plain: Option<[Duration; 2]>,
-}
-
-/// What one way writes to: large enough for every case.
-struct Row {
-    answers: Vec<u32>,
-    certificate: Vec<u8>,
-}
-
-impl Row {
-    /// Allocates it and writes to each place, so that no repetition meets a page
-    /// for the first time.
-    fn new() -> Self {
-        Row {
-            answers: vec![1; enough_answers(NUMBERS)],
-            certificate: vec![1; enough_bytes(NUMBERS)],
-        }
-    }
-
-    /// What was written.
-    fn written(&self, counts: Counts) -> (&[u32], &[u8]) {
-        let Row {
-            answers,
-            certificate,
-        } = self;
-        (&answers[..counts.answers], &certificate[..counts.bytes])
-    }
 }
 
 /// Runs all ways in turn, `repetitions` times, and checks that they agree.
