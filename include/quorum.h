@@ -88,7 +88,7 @@ extern "C" {
  * `room-enough`, `weighted-room-enough`.) Many questions in one call need at most
  * this for each of them. (Proved: `many-room-enough`.) quorum_query_alone needs at
  * most so many answers for the numbers of run 0, and so many bytes for those of the
- * other runs.
+ * other runs. (Proved: `alone-room-enough`.)
  */
 #define QUORUM_ENOUGH_ANSWERS(n) ((size_t)(n))
 #define QUORUM_ENOUGH_BYTES(n) (34 * (size_t)(n) + 19)
@@ -102,7 +102,8 @@ extern "C" {
  * `always-enough`, `weighted-always-enough`.) So is 2 * n * b for n numbers in all,
  * b being the binary digits of n (`numbers-enough`, `weighted-numbers-enough`). Many
  * questions in one call need at most this for each of them. (Proved:
- * `many-always-enough`.) quorum_query_alone needs at most this too.
+ * `many-always-enough`.) quorum_query_alone needs at most this too. (Proved:
+ * `alone-always-enough`, `alone-numbers-enough`.)
  */
 #define QUORUM_ENOUGH_PROBES 44040192u
 
@@ -414,7 +415,7 @@ void quorum_query_many(const uint32_t *numbers, size_t numbers_len,
  *
  * Cost: one pass over the numbers for the first checks, then the probes and the
  * writing of the certificate as of a quorum_query about the other runs alone, and one
- * pass over the certificate and run 0 together.
+ * pass over the certificate, up to run 0's last bin, and run 0 together.
  *
  * Example: which bins of {2, 5, 8, 9} do fewer than two of {2, 5, 9},
  * {5, 7, 9, 12} and {1, 9} hold?

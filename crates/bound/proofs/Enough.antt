@@ -4,17 +4,20 @@ use Prim.Native.Nat.{ℕ, _≤_, _<_}
 use lib.ListN.{length, getD}
 use mathlib.Core.List.{List}
 use mathlib.Core.Logic.{_≢_}
-use mathlib.Core.Path.{_≡_, sym, _∙_}
+use mathlib.Core.Path.{_≡_, sym, _∙_, subst}
 use native.Mathlib.Nat.{le-trans}
 use native.Mathlib.Omega.{arith}
 use Rattle.bound.specs.declared.Bound.{Bound}
 use Rattle.bound.specs.declared.Bound.the-variants.{Sum}
 use Rattle.bound.specs.Bound.{probeBound, probeBoundChosen}
 use Rattle.bound.proofs.Runs.{bound-passed, weighted-bound-passed, chosen-bound-passed}
+use Rattle.model.proofs.Alone.{others-chosen, alone-chosen-checks}
+use Rattle.model.proofs.AloneDemands.{alone-demand3}
 use Rattle.model.proofs.Demands.{demand3, weighted-demand3}
 use Rattle.model.proofs.Many.{sum-le}
 use Rattle.model.proofs.ManyChecks.{many-passed}
 use Rattle.model.proofs.ManyDemands.{many-demand3}
+use Rattle.model.specs.Alone.{otherRuns, otherMask, aloneChecks, queryAlone}
 use Rattle.model.specs.Certificate.{Part, TrueCertificate}
 use Rattle.model.specs.Compared.{bound}
 use Rattle.model.specs.Demands.{Fits, refusedBy}
@@ -59,4 +62,15 @@ many-bound-enough numbers ends masks thresholds allowance answers certificate re
     (λ q k.
     not-below (bound (length (ps q)) (runsOf numbers ends masks q)) (s q) (r q k)
     (chosen-bound-passed (length (ps q)) (getD masks q 0) (getD thresholds q 0) numbers ends (p .each q k))))
+    l)
+
+-- The bound of the call that asks what one run found alone is that of the mask of the other runs.
+pub alone-bound-enough : (numbers ends : List ℕ) (t allowance : ℕ) (answers certificate : List ℕ) → Fits pastBin numbers → aloneChecks numbers ends t ≡ passed
+    → (ps : List Part) → TrueCertificate (otherRuns (runs numbers ends)) t ps → (s : ℕ) → probeBoundChosen ends (otherMask (length ends)) (length ps) ≡ Sum s
+    → s ≤ allowance → refusedBy (queryAlone numbers ends t allowance answers certificate .outcome) ≢ 7
+alone-bound-enough numbers ends t allowance answers certificate h e ps c s r l =
+    alone-demand3 numbers ends t allowance answers certificate h .for-every e ps c .enough
+    (le-trans
+    (subst (λ rs. bound (length ps) rs ≤ s) (others-chosen numbers ends)
+    (not-below (bound (length ps) _) s r (chosen-bound-passed (length ps) (otherMask (length ends)) t numbers ends (alone-chosen-checks numbers ends t e))))
     l)

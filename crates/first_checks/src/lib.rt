@@ -7,6 +7,7 @@ ghost use Prim.Native.Nat.{_≤_};
 ghost use lib.Count.{ones};
 ghost use lib.Dec.{eqb};
 ghost use lib.ListN.{length};
+ghost use Rattle.model.specs.Alone.{aloneChecks};
 ghost use Rattle.model.specs.Refusals.{_then_, refuseIf, refuseAt, fallsFrom, lastEnd, unrisenIn, misweighed, countCheck, weightsCheck, thresholdCheck, sumOfWeights, maskCheck, listChecks, firstChecks, weightedChecks, chosenChecks};
 ghost use Rattle.model.specs.Runs.{mostRuns};
 ghost use Rattle.rising.specs.Found.{foundPlace};
@@ -230,16 +231,30 @@ pub fn list_checks(numbers: &[u32], ends: &[u32]) -> Checked
     Checked::Passed
 }
 
-// The first checks of a question or a checker over all runs.
-pub fn first_checks(numbers: &[u32], ends: &[u32], threshold: u32) -> Checked
-    ensures { λ r. ⌜ checkOf r ≡ firstChecks (now (numbers .entry)) (now (ends .entry)) threshold ⌝ }
+// The first checks of a question or a checker over `most` of the runs.
+fn checks_over(most: usize, numbers: &[u32], ends: &[u32], threshold: u32) -> Checked
+    ensures { λ r. ⌜ checkOf r ≡ (countCheck (now (ends .entry)) then thresholdCheck most threshold threshold then listChecks (now (numbers .entry)) (now (ends .entry))) ⌝ }
 {
     let t = arith::usize_of_u32(threshold);
-    let met = first_of(count_check(ends), threshold_check(ends.len(), t, t));
+    let met = first_of(count_check(ends), threshold_check(most, t, t));
     let Checked::Passed = met else {
         return met;
     };
     list_checks(numbers, ends)
+}
+
+// Those over all runs.
+pub fn first_checks(numbers: &[u32], ends: &[u32], threshold: u32) -> Checked
+    ensures { λ r. ⌜ checkOf r ≡ firstChecks (now (numbers .entry)) (now (ends .entry)) threshold ⌝ }
+{
+    checks_over(ends.len(), numbers, ends, threshold)
+}
+
+// Those over all runs but run 0.
+pub fn alone_checks(numbers: &[u32], ends: &[u32], threshold: u32) -> Checked
+    ensures { λ r. ⌜ checkOf r ≡ aloneChecks (now (numbers .entry)) (now (ends .entry)) threshold ⌝ }
+{
+    checks_over(arith::left(ends.len(), 1), numbers, ends, threshold)
 }
 
 // Those over the runs that a mask chooses, the threshold held against their number.

@@ -6,13 +6,14 @@ use mathlib.Core.List.{List, [], _∷_, List·Memᴰ·head, List·Memᴰ·tail}
 use mathlib.Core.Logic.{⊎-elim}
 use mathlib.Core.Path.{_≡_, refl, ap}
 use native.Mathlib.Omega.{arith}
+use Rattle.field_read.proofs.Held.{Shape, field-shape, read-size, reads, held-none, held-stop, held-read}
+use Rattle.field_read.specs.Held.{partsHeld}
 use Rattle.model.proofs.Encoding.{size-pos, drop-fits, read-field}
 use Rattle.model.specs.Certificate.{Part, answer, gap, numberOf, sizeOf, read, readField}
 use Rattle.model.specs.Demands.{Fits}
 use Rattle.text_write.proofs.Decimals.{decimal-few}
 use Rattle.text_lines.proofs.Lines.{line-length}
-use Rattle.hits_parts.specs.Parts.{partLine, partLines, partsHeld}
-use Rattle.hits_parts.proofs.Parts.{Shape, field-shape, read-size, reads, held-none, held-stop, held-read}
+use Rattle.hits_parts.specs.Parts.{partLine, partLines}
 
 -- ---- a part
 

@@ -1,9 +1,10 @@
 // The lines that the program hits prints for the parts of a certificate (docs/SPECIFICATION.md, 'The program hits').
 ghost use Prim.Native.Nat.{_+_, _≤_};
 ghost use lib.ListN.{length};
+ghost use Rattle.field_read.specs.Held.{partsHeld};
 ghost use Rattle.field_read.specs.Reading.{partOf};
 ghost use Rattle.text_write.specs.Laying.{Lays};
-ghost use Rattle.hits_parts.specs.Parts.{partLine, partLines, partsHeld};
+ghost use Rattle.hits_parts.specs.Parts.{partLine, partLines};
 use field_read::Field;
 use field_read::Part;
 

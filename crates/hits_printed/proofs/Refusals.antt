@@ -12,7 +12,7 @@ use mathlib.Core.Path.{_≡_, refl, sym, ap, _∙_, subst}
 use native.Mathlib.Omega.{arith}
 use Rattle.model.specs.Certificate.{Part, answer, gap}
 use Rattle.model.specs.Demands.{Fits}
-use Rattle.model.specs.Refusals.{Check, passed, refusal, _then_, refuseIf, refuseAt, fallsFrom, lastEnd, countCheck, thresholdCheck, listChecks, firstChecks, Outcome, accepted, refused, answeredBy, query}
+use Rattle.model.specs.Refusals.{Check, passed, refusal, _then_, refuseIf, refuseAt, fallsFrom, lastEnd, countCheck, thresholdCheck, listChecks, firstChecks, Outcome, accepted, refused, answeredBy, checkedFirst, query}
 use Rattle.model.specs.Runs.{lastBin, pastBin, mostNumbers, runs}
 use Rattle.model.proofs.Enough.{Door, door-passed, door-then, door-if, door-at, room-enough}
 use Rattle.model.proofs.Tests.{lt-or-le, or-false}
@@ -20,7 +20,8 @@ use Rattle.hits_input.specs.Input as text
 use Rattle.hits_limits.specs.Limits.{mostBytes, inputRuns, inputNumbers, answerRoom, certificateRoom}
 use Rattle.text_write.specs.Decimal.{decimalIn, decimal}
 use Rattle.text_lines.specs.Lines.{numbersAfter, line}
-use Rattle.hits_parts.specs.Parts.{partLine, partLines, partsHeld}
+use Rattle.field_read.specs.Held.{partsHeld}
+use Rattle.hits_parts.specs.Parts.{partLine, partLines}
 use Rattle.hits_render.specs.Text.{doneLine, refuseLine, rendered}
 use Rattle.hits_ask.specs.Ask.{shown, asked, textFor}
 use Rattle.hits_parse.proofs.Parsing.{ends-length}
@@ -231,7 +232,7 @@ door rs t h =
 
 runs-refused : (rs : List (List ℕ)) (t allowance : ℕ) (answers certificate : List ℕ) → Kept inputNumbers 0 rs → length answers ≡ answerRoom → length certificate ≡ certificateRoom
     → (n p a b d h : ℕ) → query (text.row rs) (text.endsFrom 0 rs) t allowance answers certificate .outcome ≡ refused n p a b d h → OfThese n ⊎ (n ≡ 7)
-unfolding query answeredBy inputNumbers answerRoom certificateRoom
+unfolding query answeredBy checkedFirst inputNumbers answerRoom certificateRoom
 runs-refused rs t allowance answers certificate k e f n p a b d h o = go (firstChecks (text.row rs) (text.endsFrom 0 rs) t) refl
   where
     few : length (text.row rs) ≤ inputNumbers

@@ -3,31 +3,21 @@
 use Prim.Native.Nat.{ℕ, _-_, _^_}
 use lib.ListN.{length, take}
 use lib.Seq.{take-length}
-use mathlib.Core.List.{List, [], _∷_, _++_, List·Memᴰ, List·Memᴰ·head, List·Memᴰ·tail}
+use mathlib.Core.List.{List, _++_}
 use mathlib.Core.Path.{_≡_, refl, ap, _∙_, subst}
 use native.Mathlib.Omega.{arith}
-use Rattle.model.proofs.Checking.{Narrow, in-range, chosen-narrow}
+use Rattle.model.proofs.Checking.{Narrow, chosen-narrow}
 use Rattle.model.proofs.Demands.{demand2}
-use Rattle.model.proofs.Encoding.{read-back}
-use Rattle.model.proofs.Fewest.{covers-rest}
 use Rattle.model.proofs.FirstChecks.{first-passed, every-run}
-use Rattle.model.specs.Certificate.{Part, encode, Covers, TruePart}
+use Rattle.model.specs.Certificate.{encode}
 use Rattle.model.specs.Compared.{wholeCertificate}
 use Rattle.model.specs.Demands.{Fits, answersIn, partsIn, bytesIn, refusedBy, Certified}
-use Rattle.model.specs.Refusals.{Check, passed, refusal, firstChecks, accepted, refused, answeredBy, query}
+use Rattle.model.specs.Refusals.{Check, passed, refusal, firstChecks, accepted, refused, checkedFirst, answeredBy, query}
 use Rattle.model.specs.Runs.{Run, pastBin, runs}
-use Rattle.hits_parts.specs.Parts.{partLines, partsHeld}
+use Rattle.field_read.specs.Held.{partsHeld}
+use Rattle.hits_parts.specs.Parts.{partLines}
 use Rattle.hits_render.specs.Text.{doneLine, rendered}
-use Rattle.hits_parts.proofs.Parts.{held-none, held-read}
-
--- the bytes of parts that cover the bins and are true hold those parts
-held-encode : {rs : List Run} {t b : ℕ} (ps : List Part) → Narrow rs → Covers b ps → ((p : Part) → List·Memᴰ p ps → TruePart rs t p)
-    → partsHeld (encode ps) ≡ ps
-unfolding encode
-held-encode [] k c h = held-none
-held-encode (p ∷ ps) k c h =
-    held-read _ (encode ps) p (read-back p (encode ps) (in-range c (h p (List·Memᴰ·head refl)) k))
-    ∙ ap (λ l. p ∷ l) (held-encode ps k (covers-rest c) (λ q m. h q (List·Memᴰ·tail m)))
+use Rattle.field_read.proofs.Held.{held-encode}
 
 -- what a certified outcome prints
 certified-prints : (rs : List Run) (t : ℕ) (answers certificate : List ℕ) (a n b d h : ℕ) → Narrow rs → Certified rs t 0 n answers (take b certificate)
@@ -45,7 +35,7 @@ pub accepted-prints : (numbers ends : List ℕ) (t allowance : ℕ) (answers cer
     → query numbers ends t allowance answers certificate .outcome ≡ accepted a n b d h
     → rendered (accepted a n b d h) (query numbers ends t allowance answers certificate .certificate)
     ≡ partLines (wholeCertificate t (runs numbers ends)) ++ doneLine a n d h
-unfolding query answeredBy refusedBy partsIn answersIn bytesIn
+unfolding query answeredBy checkedFirst refusedBy partsIn answersIn bytesIn
 accepted-prints numbers ends t allowance answers certificate f a n b d h o = go (firstChecks numbers ends t) refl
   where
     go : (c : Check) → firstChecks numbers ends t ≡ c

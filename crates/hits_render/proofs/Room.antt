@@ -11,7 +11,8 @@ use Rattle.model.specs.Refusals.{accepted}
 use Rattle.text_write.proofs.Decimals.{decimal-few}
 use Rattle.text_lines.proofs.Lines.{line-length}
 use Rattle.hits_limits.specs.Limits.{lineRoom}
-use Rattle.hits_parts.specs.Parts.{partLines, partsHeld}
+use Rattle.field_read.specs.Held.{partsHeld}
+use Rattle.hits_parts.specs.Parts.{partLines}
 use Rattle.hits_parts.proofs.Room.{parts-room}
 use Rattle.hits_render.specs.Text.{doneLine, refuseLine, rendered}
 

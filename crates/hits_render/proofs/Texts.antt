@@ -15,7 +15,8 @@ use Rattle.query.specs.declared.Outcome.the-variants.{Refused}
 use Rattle.text_write.specs.Laying.{Lays}
 use Rattle.text_lines.specs.Lines.{line}
 use Rattle.hits_limits.specs.Limits.{lineRoom}
-use Rattle.hits_parts.specs.Parts.{partLines, partsHeld}
+use Rattle.field_read.specs.Held.{partsHeld}
+use Rattle.hits_parts.specs.Parts.{partLines}
 use Rattle.hits_render.specs.Text.{doneLine, refuseLine, rendered, Shows}
 use Rattle.hits_render.specs.declared.Rendered.{Rendered}
 use Rattle.hits_render.specs.declared.Rendered.the-variants.{Text}

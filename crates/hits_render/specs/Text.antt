@@ -9,7 +9,8 @@ use Rattle.model.specs.Refusals.{Outcome, accepted, refused, over}
 use Rattle.hits_render.specs.declared.Rendered.{Rendered}
 use Rattle.hits_render.specs.declared.Rendered.the-variants.{Text, Full}
 use Rattle.text_lines.specs.Lines.{line}
-use Rattle.hits_parts.specs.Parts.{partLines, partsHeld}
+use Rattle.field_read.specs.Held.{partsHeld}
+use Rattle.hits_parts.specs.Parts.{partLines}
 
 -- `done` answers parts doublings halvings
 unfoldable pub doneLine : ℕ → ℕ → ℕ → ℕ → List ℕ

@@ -10,11 +10,11 @@ use native.Mathlib.Nat.{le-trans, mul-le-mul, mul-le-mul-left, mul-le-mul-right}
 use native.Mathlib.Omega.{arith}
 use Rattle.model.specs.Compared.{wholeWalk, probesIn, digits, boundOf, boundIn}
 use Rattle.model.specs.Demands.{Fits, refusedBy}
-use Rattle.model.specs.Refusals.{Check, passed, weightedChecks, answeredBy, query, queryWeighted}
+use Rattle.model.specs.Refusals.{Check, passed, firstChecks, weightedChecks, answeredWith, outcomeOf, answeredBy, query, queryWeighted}
 use Rattle.model.specs.Runs.{Run, pastBin, mostNumbers, runs, weighted, total}
 use Rattle.model.proofs.Demands.{whole-bound, never-spent}
 use Rattle.model.proofs.Digits.{digits-mono, digits-least}
-use Rattle.model.proofs.Enough.{NotSpent, first-not-spent, weighted-not-spent, spent-passed, listed-numbers, weighted-numbers}
+use Rattle.model.proofs.Enough.{NotSpent, threshold-not-spent, weighted-not-spent, unspent-by, listed-numbers, weighted-numbers}
 use Rattle.model.proofs.FirstChecks.{Listed, first-passed, weighted-passed, fit, weighted-fit}
 use Rattle.model.proofs.Truth.{Fit}
 
@@ -34,7 +34,7 @@ sum-bound n (r ∷ rs) h =
     omega arith
 
 -- For runs of at most n numbers in all the sum over the runs is at most 2 × n × digits n.
-numbers-bound : (n : ℕ) (rs : List Run) → total (λ r. length (r .bins)) rs ≤ n → total (λ r. boundIn (length (r .bins)) r) rs ≤ boundOf n n
+pub numbers-bound : (n : ℕ) (rs : List Run) → total (λ r. length (r .bins)) rs ≤ n → total (λ r. boundIn (length (r .bins)) r) rs ≤ boundOf n n
 unfolding boundOf
 numbers-bound n rs l =
     let k = sum-bound n rs l in
@@ -53,33 +53,31 @@ lists-bound numbers ends p =
 -- A question over runs that its first checks make fit, with an allowance of 2 × n × digits n for each run of n bins: refusal 7 never occurs, whatever the input.
 allowance-enough-by : (c : Check) (rs : List Run) (t allowance : ℕ) (answers certificate : List ℕ) → NotSpent c → (c ≡ passed → Fit rs t)
     → (c ≡ passed → total (λ r. boundIn (length (r .bins)) r) rs ≤ allowance) → refusedBy (answeredBy c rs t allowance answers certificate .outcome) ≢ 7
-unfolding answeredBy
-allowance-enough-by c rs t allowance answers certificate d fits l e =
-    let i = spent-passed c rs t allowance answers certificate d e in
-    let g = fits i in
-    never-spent g (λ r. boundIn (length (r .bins)) r) (run-probes g) allowance (length answers) (length certificate) (l i) (rw i at e)
+unfolding answeredBy answeredWith outcomeOf
+allowance-enough-by c rs t allowance answers certificate d fits l =
+    unspent-by c _ answers certificate d
+    (λ i. never-spent (fits i) (λ r. boundIn (length (r .bins)) r) (run-probes (fits i)) allowance (length answers) (length certificate) (l i))
 
 module _ (numbers ends : List ℕ) (t allowance : ℕ) (answers certificate : List ℕ) (fits : Fits pastBin numbers) where
+  enough-by : (firstChecks numbers ends t ≡ passed → total (λ r. boundIn (length (r .bins)) r) (runs numbers ends) ≤ allowance)
+      → refusedBy (query numbers ends t allowance answers certificate .outcome) ≢ 7
+  unfolding query firstChecks
+  enough-by =
+      allowance-enough-by _ (runs numbers ends) t allowance answers certificate (threshold-not-spent (length ends) numbers ends t) (fit numbers ends t fits)
+
   pub allowance-enough : total (λ r. boundIn (length (r .bins)) r) (runs numbers ends) ≤ allowance
       → refusedBy (query numbers ends t allowance answers certificate .outcome) ≢ 7
-  unfolding query
-  allowance-enough l =
-      allowance-enough-by _ (runs numbers ends) t allowance answers certificate (first-not-spent numbers ends t) (fit numbers ends t fits) (λ e. l)
+  allowance-enough l = enough-by (λ e. l)
 
   -- And so is 2 × n × digits n, where n is the count of all numbers.
   pub numbers-enough : boundOf (length numbers) (length numbers) ≤ allowance
       → refusedBy (query numbers ends t allowance answers certificate .outcome) ≢ 7
-  unfolding query
   numbers-enough l =
-      allowance-enough-by _ (runs numbers ends) t allowance answers certificate (first-not-spent numbers ends t) (fit numbers ends t fits)
-      (λ e. le-trans (numbers-bound (length numbers) (runs numbers ends) (listed-numbers numbers ends (first-passed numbers ends t e .lists))) l)
+      enough-by (λ e. le-trans (numbers-bound (length numbers) (runs numbers ends) (listed-numbers numbers ends (first-passed numbers ends t e .lists))) l)
 
   -- And so is 44040192, whatever the count of numbers.
   pub always-enough : 2 * mostNumbers * 21 ≤ allowance → refusedBy (query numbers ends t allowance answers certificate .outcome) ≢ 7
-  unfolding query
-  always-enough l =
-      allowance-enough-by _ (runs numbers ends) t allowance answers certificate (first-not-spent numbers ends t) (fit numbers ends t fits)
-      (λ e. le-trans (lists-bound numbers ends (first-passed numbers ends t e .lists)) l)
+  always-enough l = enough-by (λ e. le-trans (lists-bound numbers ends (first-passed numbers ends t e .lists)) l)
 
 -- And so it is with weights.
 module _ (numbers ends weights : List ℕ) (wanted allowance : ℕ) (answers certificate : List ℕ) (fits : Fits pastBin numbers) where

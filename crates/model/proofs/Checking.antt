@@ -10,7 +10,7 @@ use mathlib.Core.List.{List, [], _∷_, _++_, List·Memᴰ, List·Memᴰ·head, 
 use mathlib.Core.Logic.{⊎-elim, _≢_}
 use mathlib.Core.Path.{_≡_, refl, sym, ap, ap₂, _∙_, subst}
 use native.Mathlib.Omega.{arith}
-use Rattle.model.specs.Certificate.{Part, answer, gap, firstOf, lastOf, maskOf, answersOf, encodePart, encode, sizeOf, Reading, unreadable, read, readField, Covers, covered, covers, NamesOnly, TrueGap, TrueAnswer, TruePart, gap-true, answer-true}
+use Rattle.model.specs.Certificate.{Part, answer, gap, firstOf, lastOf, maskOf, answersOf, encodePart, encode, sizeOf, Reading, unreadable, read, readField, Covers, covered, covers, NamesOnly, TrueGap, TrueAnswer, TruePart, gap-true, answer-true, TrueCertificate}
 use Rattle.model.specs.Demands.{Fits, Accepts}
 use Rattle.model.specs.Between.{within}
 use Rattle.model.specs.Refusals.{Check, passed, refusal, _then_, refuseIf, firstChecks, weightedChecks, chosenChecks, Verdict, valid, invalid, misplaced, namesOther, misnamed, contradicts, anyContradicts, checkPart, counted, atEnd, checkFrom, judged, check, checkChosen, checkWeighted}
@@ -340,6 +340,10 @@ true-accepted (suc fuel) rs t b at (p ∷ ps) a k c h l =
     let i = true-accepted fuel rs t (suc (lastOf p)) (at + sizeOf p) ps a k (covers-rest c) (λ r m. h r (List·Memᴰ·tail m)) (omega arith) in
     rw (d .2) (check-read fuel rs t b at (d .0) (d .1 ++ encode ps) (encode ps) p (rw (d .2) at e) w ∙ (ap (counted p) i ∙ valid-counted p ps))
 
+whole-accepted : (rs : List Run) (t : ℕ) (ps : List Part) → Ascending 0 rs → Narrow rs → TrueCertificate rs t ps
+    → checkFrom (length (encode ps)) rs t firstBin 0 (encode ps) ≡ valid (length (answersOf ps)) (length ps)
+whole-accepted rs t ps l n c = true-accepted (length (encode ps)) rs t firstBin 0 ps l n (c .covering) (c .each) (omega arith)
+
 -- Of runs whose labels rise and have a bit in a mask, the checker accepts a certificate if it is true and only then.
 judges : (rs : List Run) (t : ℕ) (certificate : List ℕ) → Ascending 0 rs → Narrow rs → Fits 256 certificate
     → Accepts rs t certificate (checkFrom (length certificate) rs t firstBin 0 certificate)
@@ -348,18 +352,29 @@ judges rs t certificate l n h =
       only-true = λ a c i.
           let r = accepted-true (length certificate) rs t firstBin 0 certificate a c l (omega arith) h i in
           (r .parts, record { covering = r .covering; each = r .each }, r .same, r .answers, r .number);
-      every-true = λ ps c i. rw i (true-accepted (length (encode ps)) rs t firstBin 0 ps l n (c .covering) (c .each) (omega arith));
+      every-true = λ ps c i. rw i (whole-accepted rs t ps l n c);
     }
 
 -- runs labelled from 0 on, of which there are at most 64
 labels-narrow : (rs : List Run) → Labelled 0 rs → length rs ≤ mostRuns → Narrow rs
 labels-narrow rs l k = record { each = λ r o. let b = label-below rs l r o in omega arith }
 
+chosen-labels : (numbers ends : List ℕ) (m : ℕ) → Ascending 0 (chosen m (runs numbers ends))
+chosen-labels numbers ends m = chosen-ascending m (runs numbers ends) (ascending (all-labelled numbers ends))
+
 pub chosen-narrow : (numbers ends : List ℕ) (m : ℕ) → length ends ≤ mostRuns → Narrow (chosen m (runs numbers ends))
 chosen-narrow numbers ends m k =
     let n = all-length numbers ends in
     let all = labels-narrow (runs numbers ends) (all-labelled numbers ends) (omega arith) in
     record { each = λ r o. all .each r (chosen-mem m (runs numbers ends) o .0) }
+
+-- Every true certificate of the chosen runs is accepted. (That its bytes are below 256 need not be told.)
+pub chosen-accepted : (numbers ends : List ℕ) (m t : ℕ) (ps : List Part) → chosenChecks numbers ends m t ≡ passed
+    → TrueCertificate (chosen m (runs numbers ends)) t ps → checkChosen numbers ends m t (encode ps) ≡ valid (length (answersOf ps)) (length ps)
+unfolding checkChosen judged
+chosen-accepted numbers ends m t ps e c =
+    rw (e, judged)
+    (whole-accepted (chosen m (runs numbers ends)) t ps (chosen-labels numbers ends m) (chosen-narrow numbers ends m (chosen-passed numbers ends m t e .few-runs)) c)
 
 -- Demand 2 for the checker, for lists, a mask and a threshold that pass the first checks: it accepts a certificate if it is true of the chosen runs and only
 -- then.
@@ -368,7 +383,7 @@ pub accepts-chosen : (numbers ends : List ℕ) (m t : ℕ) (certificate : List �
 unfolding checkChosen judged
 accepts-chosen numbers ends m t certificate h e =
     rw (e, judged)
-    (judges (chosen m (runs numbers ends)) t certificate (chosen-ascending m (runs numbers ends) (ascending (all-labelled numbers ends)))
+    (judges (chosen m (runs numbers ends)) t certificate (chosen-labels numbers ends m)
     (chosen-narrow numbers ends m (chosen-passed numbers ends m t e .few-runs)) h)
 
 -- And for all runs.

@@ -1,11 +1,11 @@
 -- A walk that a refusal ends is the first part of the whole walk: its parts are the first parts, it makes no more probes, and it is whole where no
--- refusal ends it. An allowance that covers the whole walk's probes is never spent. Assumes nothing.
+-- refusal ends it. An allowance that covers the whole walk's probes is never spent, and places for all its answers are enough. Assumes nothing.
 use Prim.Native.Nat.{ℕ, zero, suc, _+_, _-_, _≤_, _<_}
 use borrow.Author.Tests.{eq-eqb, ne-eqb, lt-ltb}
 use lib.Dec.{eqb, ltb}
 use lib.ListN.{length, take, length-append}
 use lib.Seq.{take-append-seam}
-use mathlib.Core.Bool.{true, false}
+use mathlib.Core.Bool.{Bool, true, false}
 use mathlib.Core.List.{List, [], _∷_, _++_, List·Memᴰ, Memᴰ·append-left}
 use mathlib.Core.Logic.{⊎-elim, _≢_}
 use mathlib.Core.Path.{_≡_, refl, sym, ap, _∙_, subst}
@@ -79,6 +79,18 @@ cut-cost c room es =
 pub cut-mem : (room : Room) (es : List Event) (e : Event) → List·Memᴰ e (cut room es .events) → List·Memᴰ e es
 cut-mem room es e m = let t = cut-first room es in subst (λ l. List·Memᴰ e l) (sym (t .1)) (Memᴰ·append-left (t .0) m)
 
+-- A refusal does not end a walk if the room is such that no event meets it, and stays so.
+cut-never : (n : ℕ) (Enough : Room → List Event → Type 0) → n ≢ 0
+    → ((room : Room) (e : Event) (es : List Event) → Enough room (e ∷ es) → met room e ≢ n)
+    → ((room : Room) (e : Event) (es : List Event) → Enough room (e ∷ es) → Enough (after room e) es)
+    → (room : Room) (es : List Event) → Enough room es → cut room es .refused ≢ n
+unfolding cut
+cut-never n Enough z never on room [] h e = z (sym e)
+cut-never n Enough z never on room (x ∷ es) h e =
+    met-or-not room x
+    (λ i. cut-never n Enough z never on (after room x) es (on room x es h) (rw (cut-on room x es i) at e))
+    (λ k i. never room x es h (i ∙ rw (cut-here room k x es i) at e))
+
 -- ---- the allowance
 
 -- a refusal at an event is 7 only where a probe is due and none is left
@@ -113,17 +125,11 @@ after-probes room (wrote (answer v m)) = omega arith
 after-probes room (wrote (gap f l m)) = omega arith
 
 pub cut-enough : (room : Room) (es : List Event) → probesOf es ≤ room .probes → cut room es .refused ≢ 7
-unfolding probesOf cost cut
-cut-enough room [] h e = omega arith
-cut-enough room (x ∷ es) h e =
-    met-or-not room x
-    (λ i.
-    let a = after-probes room x in
-    cut-enough (after room x) es (omega arith) (rw (cut-on room x es i) at e))
-    (λ n i.
-    let z : suc n ≡ 7 = rw (cut-here room n x es i) at e in
-    let s = met-seven room x (i ∙ z) in
-    absurd (omega arith))
+unfolding probesOf cost
+cut-enough =
+    cut-never 7 (λ room es. probesOf es ≤ room .probes) (omega arith)
+    (λ room x es h i. let s = met-seven room x i in omega arith)
+    (λ room x es h. let a = after-probes room x in omega arith)
 
 -- a walk makes no more probes than the allowance
 met-probe : (room : Room) (e : Event) → met room e ≡ 0 → probe e ≤ room .probes
@@ -175,6 +181,35 @@ met-gap room f l m h =
     (λ (o : room .bytes < 19). let z : _≡_ {A = ℕ} 6 0 = rw (lt-ltb (room .bytes) 19 o, met) at h in absurd (omega arith))
     (λ (o : 19 ≤ room .bytes). o)
     (lt-or-le (room .bytes) 19)
+
+-- neither of two numbers is a third
+either-not : (b : Bool) {x y n : ℕ} → x ≢ n → y ≢ n → elim b [ true ↦ x | false ↦ y ] ≢ n
+either-not true h k = h
+either-not false h k = k
+
+-- An event is not refused by 5 where there are places for its answer and those after it.
+met-five : (room : Room) (e : Event) (es : List Event) → length (answersOf (partsOf (e ∷ es))) ≤ room .answers → met room e ≢ 5
+unfolding met partsOf answersOf
+met-five room (sought i) es h = omega arith
+met-five room (doubled i) es h = either-not (eqb (room .probes) 0) (omega arith) (omega arith)
+met-five room (halved i) es h = either-not (eqb (room .probes) 0) (omega arith) (omega arith)
+met-five room (wrote (answer v m)) es h =
+    let n : room .answers ≢ 0 = omega arith in
+    rw (ne-eqb (room .answers) 0 n, met) (either-not (ltb (room .bytes) 15) (omega arith) (omega arith))
+met-five room (wrote (gap f l m)) es h = either-not (ltb (room .bytes) 19) (omega arith) (omega arith)
+
+after-answers : (room : Room) (e : Event) (es : List Event) → length (answersOf (partsOf (e ∷ es))) ≤ room .answers
+    → length (answersOf (partsOf es)) ≤ after room e .answers
+unfolding after partsOf answersOf
+after-answers room (sought i) es h = h
+after-answers room (doubled i) es h = h
+after-answers room (halved i) es h = h
+after-answers room (wrote (answer v m)) es h = omega arith
+after-answers room (wrote (gap f l m)) es h = h
+
+-- Places for all answers are enough.
+pub cut-unfilled : (room : Room) (es : List Event) → length (answersOf (partsOf es)) ≤ room .answers → cut room es .refused ≢ 5
+cut-unfilled = cut-never 5 (λ room es. length (answersOf (partsOf es)) ≤ room .answers) (omega arith) met-five after-answers
 
 -- what some events write, and what they leave of the room
 pub record Fitted (room : Room) (es : List Event) : Type 0 where

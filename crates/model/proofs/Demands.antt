@@ -11,7 +11,7 @@ use native.Mathlib.Omega.{arith}
 use Rattle.model.specs.Certificate.{Part, answersOf, encode, TrueCertificate}
 use Rattle.model.specs.Compared.{wholeWalk, partsOf, wholeCertificate, doublingProbe, halvingProbe, probe, doublingsOf, halvingsOf, probesOf, inRun, doublingsIn, halvingsIn, probesIn, digits, boundOf, boundIn, bound}
 use Rattle.model.specs.Demands.{Fits, answersIn, partsIn, bytesIn, doublingsMade, halvingsMade, refusedBy, Exact, Certified, Demand2, Bounded, Demand3}
-use Rattle.model.specs.Refusals.{Check, passed, firstChecks, weightedChecks, Room, Ended, cut, cutWalk, over, outcomeOf, answeredBy, query, queryWeighted}
+use Rattle.model.specs.Refusals.{Check, passed, firstChecks, weightedChecks, Room, Ended, cut, cutWalk, over, Answered, outcomeWith, answeredWith, checkedFirst, outcomeOf, answeredBy, query, queryWeighted}
 use Rattle.model.specs.Runs.{Run, firstBin, pastBin, runs, weighted, total}
 use Rattle.model.specs.Walk.{Event, walk}
 use Rattle.model.proofs.Bounds.{walk-probes, Owned, owned, sum-owned}
@@ -54,35 +54,35 @@ whole-bound g d r m h =
 
 -- ---- what an ended walk returns
 
-outcome-parts : (es : List Event) (n : ℕ) → partsIn (outcomeOf (record { events = es; refused = n })) ≡ length (partsOf es)
-unfolding outcomeOf partsIn
-outcome-parts es zero = refl
-outcome-parts es (suc n) = refl
+pub outcome-parts : (a : ℕ) (es : List Event) (n : ℕ) → partsIn (outcomeWith a (record { events = es; refused = n })) ≡ length (partsOf es)
+unfolding outcomeWith partsIn
+outcome-parts a es zero = refl
+outcome-parts a es (suc n) = refl
 
-outcome-answers : (es : List Event) (n : ℕ) → answersIn (outcomeOf (record { events = es; refused = n })) ≡ length (answersOf (partsOf es))
-unfolding outcomeOf answersIn
-outcome-answers es zero = refl
-outcome-answers es (suc n) = refl
+pub outcome-answers : (a : ℕ) (es : List Event) (n : ℕ) → answersIn (outcomeWith a (record { events = es; refused = n })) ≡ a
+unfolding outcomeWith answersIn
+outcome-answers a es zero = refl
+outcome-answers a es (suc n) = refl
 
-outcome-bytes : (es : List Event) (n : ℕ) → bytesIn (outcomeOf (record { events = es; refused = n })) ≡ length (encode (partsOf es))
-unfolding outcomeOf bytesIn
-outcome-bytes es zero = refl
-outcome-bytes es (suc n) = refl
+pub outcome-bytes : (a : ℕ) (es : List Event) (n : ℕ) → bytesIn (outcomeWith a (record { events = es; refused = n })) ≡ length (encode (partsOf es))
+unfolding outcomeWith bytesIn
+outcome-bytes a es zero = refl
+outcome-bytes a es (suc n) = refl
 
-outcome-doublings : (es : List Event) (n : ℕ) → doublingsMade (outcomeOf (record { events = es; refused = n })) ≡ doublingsOf es
-unfolding outcomeOf doublingsMade
-outcome-doublings es zero = refl
-outcome-doublings es (suc n) = refl
+pub outcome-doublings : (a : ℕ) (es : List Event) (n : ℕ) → doublingsMade (outcomeWith a (record { events = es; refused = n })) ≡ doublingsOf es
+unfolding outcomeWith doublingsMade
+outcome-doublings a es zero = refl
+outcome-doublings a es (suc n) = refl
 
-outcome-halvings : (es : List Event) (n : ℕ) → halvingsMade (outcomeOf (record { events = es; refused = n })) ≡ halvingsOf es
-unfolding outcomeOf halvingsMade
-outcome-halvings es zero = refl
-outcome-halvings es (suc n) = refl
+pub outcome-halvings : (a : ℕ) (es : List Event) (n : ℕ) → halvingsMade (outcomeWith a (record { events = es; refused = n })) ≡ halvingsOf es
+unfolding outcomeWith halvingsMade
+outcome-halvings a es zero = refl
+outcome-halvings a es (suc n) = refl
 
-outcome-refused : (es : List Event) (n : ℕ) → refusedBy (outcomeOf (record { events = es; refused = n })) ≡ n
-unfolding outcomeOf refusedBy
-outcome-refused es zero = refl
-outcome-refused es (suc n) = refl
+pub outcome-refused : (a : ℕ) (es : List Event) (n : ℕ) → refusedBy (outcomeWith a (record { events = es; refused = n })) ≡ n
+unfolding outcomeWith refusedBy
+outcome-refused a es zero = refl
+outcome-refused a es (suc n) = refl
 
 -- ---- a walk up to where it ends
 
@@ -172,57 +172,59 @@ module _ (rs : List Run) (t : ℕ) (room : Room) where
 
 pub never-spent : {rs : List Run} {t : ℕ} → Fit rs t → (b : Run → ℕ) → ((r : Run) → List·Memᴰ r rs → probesIn (r .label) (wholeWalk t rs) ≤ b r)
     → (allowance answers bytes : ℕ) → total b rs ≤ allowance → refusedBy (outcomeOf (cutWalk t rs allowance answers bytes)) ≢ 7
-unfolding cutWalk
+unfolding cutWalk outcomeOf
 never-spent {rs} {t} g b h allowance answers bytes l e =
     let room : Room = record { probes = allowance; answers = answers; bytes = bytes } in
-    cut-unspent rs t room g b h l (sym (outcome-refused _ (cut room (wholeWalk t rs) .refused)) ∙ e)
+    cut-unspent rs t room g b h l (sym (outcome-refused _ _ (cut room (wholeWalk t rs) .refused)) ∙ e)
+
+-- what stands at the front of the buffers of a call that wrote these answers
+module _ (found : List ℕ) (e : Ended) (answers certificate : List ℕ) where
+  pub answers-front : take (answersIn (answeredWith found e answers certificate .outcome)) (answeredWith found e answers certificate .answers) ≡ found
+  unfolding answeredWith over
+  answers-front = rw (outcome-answers (length found) (e .events) (e .refused)) (take-append-seam found _)
+
+  pub certificate-front : take (bytesIn (answeredWith found e answers certificate .outcome)) (answeredWith found e answers certificate .certificate)
+      ≡ encode (partsOf (e .events))
+  unfolding answeredWith over
+  certificate-front = rw (outcome-bytes (length found) (e .events) (e .refused)) (take-append-seam (encode (partsOf (e .events))) _)
 
 module _ (rs : List Run) (t allowance : ℕ) (answers certificate : List ℕ) where
   asked : Ended
   asked = cutWalk t rs allowance (length answers) (length certificate)
 
-  answers-front : take (answersIn (outcomeOf asked)) (over (answersOf (partsOf (asked .events))) answers) ≡ answersOf (partsOf (asked .events))
-  unfolding over
-  answers-front =
-      rw (outcome-answers (asked .events) (asked .refused)) (take-append-seam (answersOf (partsOf (asked .events))) _)
-
-  certificate-front : take (bytesIn (outcomeOf asked)) (over (encode (partsOf (asked .events))) certificate) ≡ encode (partsOf (asked .events))
-  unfolding over
-  certificate-front =
-      rw (outcome-bytes (asked .events) (asked .refused)) (take-append-seam (encode (partsOf (asked .events))) _)
+  answered : Answered
+  answered = answeredWith (answersOf (partsOf (asked .events))) asked answers certificate
 
   certified-asked : Fit rs t
-      → Certified rs t (refusedBy (outcomeOf asked)) (partsIn (outcomeOf asked))
-      (take (answersIn (outcomeOf asked)) (over (answersOf (partsOf (asked .events))) answers))
-      (take (bytesIn (outcomeOf asked)) (over (encode (partsOf (asked .events))) certificate))
-  unfolding asked cutWalk
+      → Certified rs t (refusedBy (answered .outcome)) (partsIn (answered .outcome)) (take (answersIn (answered .outcome)) (answered .answers))
+      (take (bytesIn (answered .outcome)) (answered .certificate))
+  unfolding asked answered answeredWith cutWalk
   certified-asked g =
-      rw (answers-front, certificate-front, outcome-refused (asked .events) (asked .refused), outcome-parts (asked .events) (asked .refused))
+      rw (
+        answers-front (answersOf (partsOf (asked .events))) asked answers certificate,
+        certificate-front (answersOf (partsOf (asked .events))) asked answers certificate,
+        outcome-refused _ (asked .events) (asked .refused),
+        outcome-parts _ (asked .events) (asked .refused),
+      )
       (certified-walk rs t (record { probes = allowance; answers = length answers; bytes = length certificate }) g)
 
   bounded-asked : Fit rs t → (ps : List Part) → TrueCertificate rs t ps
-      → Bounded rs t allowance (asked .events) (refusedBy (outcomeOf asked)) (partsIn (outcomeOf asked)) (doublingsMade (outcomeOf asked)) (halvingsMade (outcomeOf asked))
-      (take (bytesIn (outcomeOf asked)) (over (encode (partsOf (asked .events))) certificate)) (length ps)
-  unfolding asked cutWalk
+      → Bounded rs t allowance (asked .events) (refusedBy (answered .outcome)) (partsIn (answered .outcome)) (doublingsMade (answered .outcome))
+      (halvingsMade (answered .outcome)) (take (bytesIn (answered .outcome)) (answered .certificate)) (length ps)
+  unfolding asked answered answeredWith cutWalk
   bounded-asked g ps c =
       rw (
-        certificate-front,
-        outcome-refused (asked .events) (asked .refused),
-        outcome-parts (asked .events) (asked .refused),
-        outcome-doublings (asked .events) (asked .refused),
-        outcome-halvings (asked .events) (asked .refused),
+        certificate-front (answersOf (partsOf (asked .events))) asked answers certificate,
+        outcome-refused _ (asked .events) (asked .refused),
+        outcome-parts _ (asked .events) (asked .refused),
+        outcome-doublings _ (asked .events) (asked .refused),
+        outcome-halvings _ (asked .events) (asked .refused),
       )
       (bounded-walk rs t (record { probes = allowance; answers = length answers; bytes = length certificate }) g ps c)
 
   -- a question whose first checks pass is its ended walk
-  answered-passed : (c : Check) → c ≡ passed
-      → answeredBy c rs t allowance answers certificate
-      ≡ record {
-        outcome = outcomeOf asked;
-        answers = over (answersOf (partsOf (asked .events))) answers;
-        certificate = over (encode (partsOf (asked .events))) certificate;
-      }
-  unfolding answeredBy asked
+  answered-passed : (c : Check) → c ≡ passed → answeredBy c rs t allowance answers certificate ≡ answered
+  unfolding answeredBy checkedFirst answered asked
   answered-passed c e = rw e
 
   -- The demands for any question over runs that its first checks make fit.
@@ -232,7 +234,7 @@ module _ (rs : List Run) (t allowance : ℕ) (answers certificate : List ℕ) wh
   demand2-by c g = record { for-every = λ e. rw (answered-passed c e) (certified-asked (g e)) }
 
   pub demand3-by : (c : Check) → (c ≡ passed → Fit rs t)
-      → Demand3 c rs t allowance answers certificate (answeredBy c rs t allowance answers certificate .outcome)
+      → Demand3 c rs t allowance (length answers) certificate (answeredBy c rs t allowance answers certificate .outcome)
       (answeredBy c rs t allowance answers certificate .certificate)
   unfolding asked
   demand3-by c g = record { for-every = λ e ps d. rw (answered-passed c e) (bounded-asked (g e) ps d) }
@@ -245,7 +247,7 @@ unfolding query
 demand2 numbers ends t allowance answers certificate h = demand2-by (runs numbers ends) t allowance answers certificate _ (fit numbers ends t h)
 
 pub demand3 : (numbers ends : List ℕ) (t allowance : ℕ) (answers certificate : List ℕ) → Fits pastBin numbers
-    → Demand3 (firstChecks numbers ends t) (runs numbers ends) t allowance answers certificate (query numbers ends t allowance answers certificate .outcome)
+    → Demand3 (firstChecks numbers ends t) (runs numbers ends) t allowance (length answers) certificate (query numbers ends t allowance answers certificate .outcome)
     (query numbers ends t allowance answers certificate .certificate)
 unfolding query
 demand3 numbers ends t allowance answers certificate h = demand3-by (runs numbers ends) t allowance answers certificate _ (fit numbers ends t h)
@@ -259,7 +261,7 @@ weighted-demand2 numbers ends weights wanted allowance answers certificate h =
     demand2-by (weighted weights (runs numbers ends)) wanted allowance answers certificate _ (weighted-fit numbers ends weights wanted h)
 
 pub weighted-demand3 : (numbers ends weights : List ℕ) (wanted allowance : ℕ) (answers certificate : List ℕ) → Fits pastBin numbers
-    → Demand3 (weightedChecks numbers ends weights wanted) (weighted weights (runs numbers ends)) wanted allowance answers certificate
+    → Demand3 (weightedChecks numbers ends weights wanted) (weighted weights (runs numbers ends)) wanted allowance (length answers) certificate
     (queryWeighted numbers ends weights wanted allowance answers certificate .outcome)
     (queryWeighted numbers ends weights wanted allowance answers certificate .certificate)
 unfolding queryWeighted

@@ -15,7 +15,7 @@ use native.Mathlib.Omega.{arith}
 use Rattle.model.specs.Certificate.{Part, answer, gap, answersOf, encode, sizeOf}
 use Rattle.model.specs.Compared.{wholeWalk, partsOf}
 use Rattle.model.specs.Demands.{Fits, refusedBy}
-use Rattle.model.specs.Refusals.{Check, passed, refusal, _then_, refuseIf, refuseAt, fallsFrom, lastEnd, countCheck, weightsCheck, thresholdCheck, listChecks, firstChecks, weightedChecks, Room, met, after, cut, cutWalk, refused, outcomeOf, answeredBy, query, queryWeighted}
+use Rattle.model.specs.Refusals.{Check, passed, refusal, _then_, refuseIf, refuseAt, fallsFrom, lastEnd, countCheck, weightsCheck, thresholdCheck, listChecks, firstChecks, weightedChecks, Room, met, after, cut, cutWalk, Outcome, refused, Answered, outcomeWith, answeredWith, checkedFirst, answeredBy, query, queryWeighted}
 use Rattle.model.specs.Runs.{Run, firstBin, pastBin, slice, from, runsFrom, runs, weightedRun, weighted, total, one}
 use Rattle.model.specs.Walk.{Event, sought, doubled, halved, wrote, headOf, head}
 use Rattle.model.proofs.Count.{total-le, total-less, total-map, weight-some, weight-witness}
@@ -203,10 +203,10 @@ unfolding Roomy
 walk-room room es a b = let s = sizes-bytes (partsOf es) in cut-roomy room es a (omega arith)
 
 -- an ended walk that 5 and 6 did not end is refused as 7 only
-ended-roomy : (es : List Event) (r n p a b d h : ℕ) → (r ≡ 0) ⊎ (r ≡ 7) → outcomeOf (record { events = es; refused = r }) ≡ refused n p a b d h → n ≡ 7
-unfolding outcomeOf
-ended-roomy es zero n p a b d h k o = absurd (let z : _≡_ {A = ℕ} 0 1 = cc in omega arith)
-ended-roomy es (suc r) n p a b d h k o =
+pub ended-roomy : (x : ℕ) (es : List Event) (r n p a b d h : ℕ) → (r ≡ 0) ⊎ (r ≡ 7) → outcomeWith x (record { events = es; refused = r }) ≡ refused n p a b d h → n ≡ 7
+unfolding outcomeWith
+ended-roomy x es zero n p a b d h k o = absurd (let z : _≡_ {A = ℕ} 0 1 = cc in omega arith)
+ended-roomy x es (suc r) n p a b d h k o =
     let e : suc r ≡ n = cc in
     ⊎-elim (λ (i : suc r ≡ 0). absurd (omega arith)) (λ (i : suc r ≡ 7). omega arith) k
 
@@ -214,6 +214,10 @@ ended-roomy es (suc r) n p a b d h k o =
 
 pub record Door (by : ℕ → Type 0) (c : Check) : Type 0 where
   pub numbers : (n p : ℕ) → c ≡ refusal n p → by n
+
+-- those of a question with a threshold, which is held against a number of runs
+abbrev pub thresholdChecks : ℕ → List ℕ → List ℕ → ℕ → Check
+thresholdChecks most numbers ends t = countCheck ends then thresholdCheck most t t then listChecks numbers ends
 
 module _ (by : ℕ → Type 0) where
   pub door-passed : (c : Check) → c ≡ passed → Door by c
@@ -238,9 +242,9 @@ module _ (by : ℕ → Type 0) where
   unfolding listChecks
   door-lists numbers ends h k = door-then _ _ (door-at 3 _ h) (door-then _ _ (door-if _ 3 _ h) (door-at 4 _ k))
 
-  door : (numbers ends : List ℕ) (t : ℕ) → by 1 → by 2 → by 3 → by 4 → Door by (firstChecks numbers ends t)
-  unfolding firstChecks countCheck thresholdCheck
-  door numbers ends t a b c d = door-then _ _ (door-if _ 1 _ a) (door-then _ _ (door-if _ 2 _ b) (door-lists numbers ends c d))
+  door : (most : ℕ) (numbers ends : List ℕ) (t : ℕ) → by 1 → by 2 → by 3 → by 4 → Door by (thresholdChecks most numbers ends t)
+  unfolding countCheck thresholdCheck
+  door most numbers ends t a b c d = door-then _ _ (door-if _ 1 _ a) (door-then _ _ (door-if _ 2 _ b) (door-lists numbers ends c d))
 
   door-weighted : (numbers ends weights : List ℕ) (wanted : ℕ) → by 1 → by 17 → by 2 → by 3 → by 4 → Door by (weightedChecks numbers ends weights wanted)
   unfolding weightedChecks countCheck weightsCheck thresholdCheck
@@ -248,41 +252,52 @@ module _ (by : ℕ → Type 0) where
       door-then _ _ (door-if _ 1 _ a)
       (door-then _ _ (door-then _ _ (door-if _ 17 _ w) (door-at 17 _ w)) (door-then _ _ (door-if _ 2 _ b) (door-lists numbers ends c d)))
 
--- A question passes its first checks or is refused by one of their numbers.
-refused-at-door : (by : ℕ → Type 0) (c : Check) (rs : List Run) (t allowance : ℕ) (answers certificate : List ℕ) → Door by c
-    → (c ≡ passed) ⊎ (by (refusedBy (answeredBy c rs t allowance answers certificate .outcome)))
-unfolding answeredBy refusedBy
-refused-at-door by passed rs t allowance answers certificate h = inl refl
-refused-at-door by (refusal n p) rs t allowance answers certificate h = inr (h .numbers n p refl)
+-- A call passes its first checks or is refused by one of their numbers.
+refused-at-door : (by : ℕ → Type 0) (c : Check) (x : Answered) (answers certificate : List ℕ) → Door by c
+    → (c ≡ passed) ⊎ (by (refusedBy (checkedFirst c x answers certificate .outcome)))
+unfolding checkedFirst refusedBy
+refused-at-door by passed x answers certificate h = inl refl
+refused-at-door by (refusal n p) x answers certificate h = inr (h .numbers n p refl)
 
--- One with a threshold passes the first checks or is refused by 1 to 4.
+-- One with a threshold passes them or is refused by 1 to 4.
+abbrev pub AtDoor : ℕ → Type 0
+AtDoor n = (1 ≤ n) × (n ≤ 4)
+
+pub passed-or-door : (most : ℕ) (numbers ends : List ℕ) (t : ℕ) (x : Answered) (answers certificate : List ℕ)
+    → (thresholdChecks most numbers ends t ≡ passed) ⊎ (AtDoor (refusedBy (checkedFirst (thresholdChecks most numbers ends t) x answers certificate .outcome)))
+passed-or-door most numbers ends t x answers certificate =
+    refused-at-door AtDoor _ x answers certificate
+    (door AtDoor most numbers ends t (omega arith, omega arith) (omega arith, omega arith) (omega arith, omega arith) (omega arith, omega arith))
+
 pub passed-or-refused : (numbers ends : List ℕ) (t allowance : ℕ) (answers certificate : List ℕ)
-    → (firstChecks numbers ends t ≡ passed)
-    ⊎ ((1 ≤ refusedBy (query numbers ends t allowance answers certificate .outcome))
-    × (refusedBy (query numbers ends t allowance answers certificate .outcome) ≤ 4))
-unfolding query
-passed-or-refused numbers ends t allowance answers certificate =
-    let d = door (λ n. (1 ≤ n) × (n ≤ 4)) numbers ends t (omega arith, omega arith) (omega arith, omega arith) (omega arith, omega arith) (omega arith, omega arith) in
-    refused-at-door _ _ (runs numbers ends) t allowance answers certificate d
+    → (firstChecks numbers ends t ≡ passed) ⊎ (AtDoor (refusedBy (query numbers ends t allowance answers certificate .outcome)))
+unfolding query answeredBy firstChecks
+passed-or-refused numbers ends t allowance answers certificate = passed-or-door (length ends) numbers ends t _ answers certificate
+
+-- If, then, one that passes is refused as 7 only, any refusal is 1, 2, 3, 4 or 7.
+pub door-or-spent : {A : Type 0} (o : Outcome) → A ⊎ (AtDoor (refusedBy o)) → (A → (n p a b d h : ℕ) → o ≡ refused n p a b d h → n ≡ 7)
+    → (n p a b d h : ℕ) → o ≡ refused n p a b d h → (AtDoor n) ⊎ (n ≡ 7)
+unfolding refusedBy
+door-or-spent o c f n p a b d h e = ⊎-elim (λ k. inr (f k n p a b d h e)) (λ k. inl (subst AtDoor (ap refusedBy e) k)) c
 
 -- The first checks do not refuse by 7, with a threshold or with weights.
 pub NotSpent : Check → Type 0
 NotSpent c = Door (λ n. n ≢ 7) c
 
-pub first-not-spent : (numbers ends : List ℕ) (t : ℕ) → NotSpent (firstChecks numbers ends t)
+pub threshold-not-spent : (most : ℕ) (numbers ends : List ℕ) (t : ℕ) → NotSpent (thresholdChecks most numbers ends t)
 unfolding NotSpent
-first-not-spent numbers ends t = door _ numbers ends t (omega arith) (omega arith) (omega arith) (omega arith)
+threshold-not-spent most numbers ends t = door _ most numbers ends t (omega arith) (omega arith) (omega arith) (omega arith)
 
 pub weighted-not-spent : (numbers ends weights : List ℕ) (wanted : ℕ) → NotSpent (weightedChecks numbers ends weights wanted)
 unfolding NotSpent
 weighted-not-spent numbers ends weights wanted = door-weighted _ numbers ends weights wanted (omega arith) (omega arith) (omega arith) (omega arith) (omega arith)
 
--- So only a question that passes them is refused as 7.
-pub spent-passed : (c : Check) (rs : List Run) (t allowance : ℕ) (answers certificate : List ℕ) → NotSpent c
-    → refusedBy (answeredBy c rs t allowance answers certificate .outcome) ≡ 7 → c ≡ passed
-unfolding NotSpent
-spent-passed c rs t allowance answers certificate h e =
-    ⊎-elim (λ i. i) (λ k. absurd (k e)) (refused-at-door _ c rs t allowance answers certificate h)
+-- So only a call that passes them may be refused as 7.
+pub unspent-by : (c : Check) (x : Answered) (answers certificate : List ℕ) → NotSpent c → (c ≡ passed → refusedBy (x .outcome) ≢ 7)
+    → refusedBy (checkedFirst c x answers certificate .outcome) ≢ 7
+unfolding NotSpent checkedFirst refusedBy
+unspent-by passed x answers certificate d h = h refl
+unspent-by (refusal n p) x answers certificate d h = d .numbers n p refl
 
 -- ---- the law
 
@@ -306,12 +321,12 @@ weighted-numbers numbers ends weights p =
 room-enough-by : (c : Check) (rs : List Run) (t n allowance : ℕ) (answers certificate : List ℕ) → n ≤ length answers → 34 * n + 19 ≤ length certificate
     → Fit rs t → total (λ r. length (r .bins)) rs ≤ n → c ≡ passed → (x p a b d h : ℕ)
     → answeredBy c rs t allowance answers certificate .outcome ≡ refused x p a b d h → x ≡ 7
-unfolding answeredBy cutWalk
+unfolding answeredBy checkedFirst answeredWith cutWalk
 room-enough-by c rs t n allowance answers certificate room bytes g l e x p a b d h o =
     let k = walk-small g n l in
     let w = walk-room (record { probes = allowance; answers = length answers; bytes = length certificate }) (wholeWalk t rs) (le-trans (k .0) room) (le-trans (k .1) bytes) in
     let ended = cutWalk t rs allowance (length answers) (length certificate) in
-    ended-roomy (ended .events) (ended .refused) x p a b d h w (rw e at o)
+    ended-roomy _ (ended .events) (ended .refused) x p a b d h w (rw e at o)
 
 module _ (numbers ends : List ℕ) (allowance : ℕ) (answers certificate : List ℕ) (fits : Fits pastBin numbers)
     (room : length numbers ≤ length answers) (bytes : 34 * length numbers + 19 ≤ length certificate) where
@@ -332,11 +347,5 @@ module _ (numbers ends : List ℕ) (allowance : ℕ) (answers certificate : List
 
   -- Of any question with a threshold that is refused the number is 1, 2, 3, 4 or 7.
   pub refused-numbers : (t n p a b d h : ℕ) → query numbers ends t allowance answers certificate .outcome ≡ refused n p a b d h
-      → ((1 ≤ n) × (n ≤ 4)) ⊎ (n ≡ 7)
-  unfolding refusedBy
-  refused-numbers t n p a b d h o =
-      let i = ap refusedBy o in
-      ⊎-elim
-      (λ e. inr (room-enough t e n p a b d h o))
-      (λ k. inl (omega (arith, k .0), omega (arith, k .1)))
-      (passed-or-refused numbers ends t allowance answers certificate)
+      → (AtDoor n) ⊎ (n ≡ 7)
+  refused-numbers t = door-or-spent _ (passed-or-refused numbers ends t allowance answers certificate) (room-enough t)

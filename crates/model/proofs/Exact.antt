@@ -107,7 +107,7 @@ pub exact : {rs : List Run} {t : ℕ} {ps : List Part} → Fit rs t → TrueCert
 unfolding held
 exact {rs} {t} {ps} g c =
     record {
-      all-held = λ x. (
+      all = λ x. (
         answers-held g ps (c .each) x,
         λ h.
             let p = g .some in

@@ -1,4 +1,7 @@
 pub mod Allowance
+pub mod Alone
+pub mod AloneDemands
+pub mod AloneEnough
 pub mod Bounds
 pub mod Buffers
 pub mod Checking

@@ -21,7 +21,7 @@ use Rattle.model.proofs.Truth.{Fit}
 -- Every answer of a true certificate is a bin: 0 never is one.
 pub answers-bins : {rs : List Run} {t : ℕ} {ps : List Part} → Fit rs t → TrueCertificate rs t ps → (x : ℕ) → List·Memᴰ x (answersOf ps) → firstBin ≤ x
 answers-bins {rs} {t} g c x m =
-    let h = exact g c .all-held x .0 m in
+    let h = exact g c .all x .0 m in
     let p = g .some in
     let s = weight-some (λ r. holds x (r .bins)) rs (omega arith) in
     rise-least (g .rising .each (s .0) (s .1)) (holds-mem x (s .0 .bins) (s .2))

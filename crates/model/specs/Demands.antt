@@ -41,10 +41,14 @@ unfoldable pub refusedBy : Outcome → ℕ
 refusedBy (accepted a n b d h) = 0
 refusedBy (refused x n a b d h) = x
 
+-- A row lists the bins of which something holds: all of them, and no others, rising, each once.
+pub record Lists (holds-of : ℕ → Type 0) (row : List ℕ) : Type 0 where
+  pub all : (x : ℕ) → List·Memᴰ x row ↔ holds-of x
+  pub rising : unrisen 0 row ≡ none
+
 -- The answers are all the bins held by lists that weigh at least t, and no others, rising, each once. (Where every list weighs 1, by at least t lists.)
-pub record Exact (rs : List Run) (t : ℕ) (answers : List ℕ) : Type 0 where
-  pub all-held : (x : ℕ) → List·Memᴰ x answers ↔ (t ≤ weightOf (λ r. holds x (r .bins)) rs)
-  pub rising : unrisen 0 answers ≡ none
+abbrev pub Exact : List Run → ℕ → List ℕ → Type 0
+Exact rs t answers = Lists (λ x. t ≤ weightOf (λ r. holds x (r .bins)) rs) answers
 
 -- Bytes are a true certificate: they are the fields of parts that are true.
 abbrev pub TrueBytes : List Run → ℕ → List ℕ → Type 0
@@ -88,8 +92,8 @@ pub record Bounded (rs : List Run) (t allowance : ℕ) (done : List Event) (numb
   pub enough : bound d rs ≤ allowance → number ≢ 7
 
 -- Demand 3 whole: for all lists and every threshold that pass the first checks, with weights or without, for every true certificate of them, whoever wrote it,
--- and whatever allowance and buffers our walk is lent. The outcome and the certificate buffer after the call are the call's own.
-pub record Demand3 (c : Check) (rs : List Run) (t allowance : ℕ) (answers before : List ℕ) (o : Outcome) (after : List ℕ) : Type 0 where
+-- and whatever allowance and buffers our walk is lent, with so many places for answers. The outcome and the certificate buffer after the call are the call's own.
+pub record Demand3 (c : Check) (rs : List Run) (t allowance places : ℕ) (before : List ℕ) (o : Outcome) (after : List ℕ) : Type 0 where
   pub for-every : c ≡ passed → (ps : List Part) → TrueCertificate rs t ps
-      → Bounded rs t allowance (cutWalk t rs allowance (length answers) (length before) .events) (refusedBy o) (partsIn o) (doublingsMade o) (halvingsMade o)
+      → Bounded rs t allowance (cutWalk t rs allowance places (length before) .events) (refusedBy o) (partsIn o) (doublingsMade o) (halvingsMade o)
       (take (bytesIn o) after) (length ps)

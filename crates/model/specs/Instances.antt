@@ -1,10 +1,11 @@
 -- docs/SPECIFICATION.md, 'Instances': the starred ones, with one that tells rounding the halving place down from rounding it up, some that tell the two
--- kinds of probes, some with unmapped marks and some with weights.
+-- kinds of probes, some with unmapped marks, some with weights and some that ask what one run found alone.
 -- Definitions only.
 use Prim.Native.Nat.{ℕ}
 use mathlib.Core.List.{List, [], _∷_, _++_, map}
 use mathlib.Core.Path.{_≡_}
 use lib.ListN.{take, drop, replicate}
+use Rattle.model.specs.Alone.{queryAlone}
 use Rattle.model.specs.Between.{between}
 use Rattle.model.specs.Certificate.{Part, answer, gap, answersOf, encode}
 use Rattle.model.specs.Many.{ManyOutcome, all-accepted, refused-in, AnsweredMany, queryMany}
@@ -314,12 +315,69 @@ withWeights =
     refusedWeighted (5 ∷ 5 ∷ []) (3 ∷ 2 ∷ []) (1 ∷ 1 ∷ []) 2 (refused 3 1 0 0 0 0) ∷
     []
 
+-- What a run found alone, so many places lent for answers and certificate bytes, all zeros before the call; and what the call returns and writes.
+pub record AloneInstance : Type 0 where
+  pub question : Instance
+  pub answers : ℕ
+  pub bytes : ℕ
+  pub found : List ℕ
+
+unfoldable pub askedAlone : AloneInstance → Answered
+askedAlone i =
+    let q = i .question in
+    queryAlone (q .numbers) (q .ends) (q .threshold) (q .allowance) (replicate (i .answers) 0) (replicate (i .bytes) 0)
+
+unfoldable pub expectedAlone : AloneInstance → Answered
+expectedAlone i =
+    record {
+      outcome = i .question .outcome;
+      answers = over (i .found) (replicate (i .answers) 0);
+      certificate = over (encode (i .question .parts)) (replicate (i .bytes) 0);
+    }
+
+unfoldable pub aloneInstance : ℕ → ℕ → List ℕ → Instance → AloneInstance
+aloneInstance answers bytes found q = record { question = q; answers = answers; bytes = bytes; found = found }
+
+-- {2, 5, 8, 9} before the runs of the listing, with an allowance and a threshold
+unfoldable pub newTest : ℕ → ℕ → Outcome → List Part → Instance
+newTest allowance t o ps = limited allowance (2 ∷ 5 ∷ 8 ∷ 9 ∷ listingNumbers) (4 ∷ 7 ∷ 11 ∷ 13 ∷ []) t o ps
+
+unfoldable pub newTestParts : List Part
+newTestParts = gap 1 1 6 ∷ gap 2 4 12 ∷ answer 5 6 ∷ gap 6 8 10 ∷ answer 9 14 ∷ gap 10 4294967295 10 ∷ []
+
+unfoldable pub foundAlone : List AloneInstance
+foundAlone =
+    aloneInstance 8 128 (2 ∷ 8 ∷ []) (newTest 3 2 (accepted 2 6 106 3 0) newTestParts) ∷
+    aloneInstance 2 106 (2 ∷ 8 ∷ []) (newTest 3 2 (accepted 2 6 106 3 0) newTestParts) ∷
+    aloneInstance 1 128 (2 ∷ []) (newTest 3 2 (refused 5 6 1 106 3 0) newTestParts) ∷
+    aloneInstance 0 128 [] (newTest 3 2 (refused 5 6 0 106 3 0) newTestParts) ∷
+    aloneInstance 8 128 [] (newTest 2 2 (refused 7 4 0 72 2 0) (take 4 newTestParts)) ∷
+    aloneInstance 0 128 [] (newTest 2 2 (refused 7 4 0 72 2 0) (take 4 newTestParts)) ∷
+    aloneInstance 8 60 [] (newTest 3 2 (refused 6 3 0 53 2 0) (take 3 newTestParts)) ∷
+    aloneInstance 8 128 (2 ∷ 5 ∷ 8 ∷ [])
+    (newTest 5 3 (accepted 3 4 72 5 0) (gap 1 4 4 ∷ gap 5 8 8 ∷ answer 9 14 ∷ gap 10 4294967295 10 ∷ [])) ∷
+    aloneInstance 8 128 [] (newTest 5 4 (refused 2 4 0 0 0 0) []) ∷
+    aloneInstance 8 128 [] (newTest 5 0 (refused 2 0 0 0 0 0) []) ∷
+    aloneInstance 8 128 [] (instance (7 ∷ []) (1 ∷ []) 1 (refused 2 1 0 0 0 0) []) ∷
+    aloneInstance 8 128 [] (instance (7 ∷ 7 ∷ []) (2 ∷ []) 0 (refused 2 0 0 0 0 0) []) ∷
+    aloneInstance 8 128 [] (instance [] [] 1 (refused 1 0 0 0 0 0) []) ∷
+    aloneInstance 8 128 [] (instance (7 ∷ 7 ∷ 5 ∷ []) (2 ∷ 3 ∷ []) 1 (refused 4 1 0 0 0 0) []) ∷
+    aloneInstance 8 128 [] (instance (7 ∷ 5 ∷ []) (2 ∷ 1 ∷ []) 1 (refused 3 1 0 0 0 0) []) ∷
+    aloneInstance 0 53 []
+    (limited 0 (0 ∷ 0 ∷ 7 ∷ 7 ∷ 7 ∷ []) (3 ∷ 4 ∷ 5 ∷ []) 2 (accepted 0 3 53 0 0) (gap 1 6 6 ∷ answer 7 6 ∷ gap 8 4294967295 6 ∷ [])) ∷
+    aloneInstance 8 128 (6 ∷ 4294967295 ∷ [])
+    (limited 0 (0 ∷ 6 ∷ 7 ∷ 4294967295 ∷ 0 ∷ 7 ∷ []) (4 ∷ 6 ∷ []) 1 (accepted 2 3 53 0 0) (gap 1 6 2 ∷ answer 7 2 ∷ gap 8 4294967295 2 ∷ [])) ∷
+    []
+
 -- The claims: each instance is answered as expected.
 pub record AsExpected (is : List Instance) : Type 0 where
   pub same : map asked is ≡ map expected is
 
 pub record WeightedAsExpected (is : List WeightedInstance) : Type 0 where
   pub same : map askedWeighted is ≡ map expectedWeighted is
+
+pub record AloneAsExpected (is : List AloneInstance) : Type 0 where
+  pub same : map askedAlone is ≡ map expectedAlone is
 
 pub record ManyAsExpected (is : List ManyInstance) : Type 0 where
   pub same : map askedMany is ≡ map expectedMany is

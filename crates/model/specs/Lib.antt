@@ -1,3 +1,5 @@
+pub mod Alone
+pub mod AloneDemands
 pub mod Between
 pub mod Certificate
 pub mod Compared

@@ -150,28 +150,38 @@ pub record Answered : Type 0 where
 unfoldable pub over : List ℕ → List ℕ → List ℕ
 over written buffer = written ++ drop (length written) buffer
 
-unfoldable pub outcomeOf : Ended → Outcome
-outcomeOf e =
+-- what is returned where so many answers are written
+unfoldable pub outcomeWith : ℕ → Ended → Outcome
+outcomeWith a e =
     let ps = partsOf (e .events) in
-    let a = length (answersOf ps) in
     let b = length (encode ps) in
     let d = doublingsOf (e .events) in
     let h = halvingsOf (e .events) in
     elim (e .refused) [ zero ↦ accepted a (length ps) b d h | suc n ↦ refused (suc n) (length ps) a b d h ]
 
+-- and where these are, with the buffers
+unfoldable pub answeredWith : List ℕ → Ended → List ℕ → List ℕ → Answered
+answeredWith found e answers certificate =
+    record {
+      outcome = outcomeWith (length found) e;
+      answers = over found answers;
+      certificate = over (encode (partsOf (e .events))) certificate;
+    }
+
+-- a call comes to this where its first checks are passed, and writes nothing where one is refused
+unfoldable pub checkedFirst : Check → Answered → List ℕ → List ℕ → Answered
+checkedFirst passed a answers certificate = a
+checkedFirst (refusal n p) a answers certificate = record { outcome = refused n p 0 0 0 0; answers = answers; certificate = certificate }
+
+-- A question's answers are those of the parts that its walk writes.
+unfoldable pub outcomeOf : Ended → Outcome
+outcomeOf e = outcomeWith (length (answersOf (partsOf (e .events)))) e
+
 -- what a question over these runs comes to, with its first checks
 unfoldable pub answeredBy : Check → List Run → ℕ → ℕ → List ℕ → List ℕ → Answered
 answeredBy c rs t allowance answers certificate =
-    elim c [
-      | passed ↦
-          let e = cutWalk t rs allowance (length answers) (length certificate) in
-          record {
-            outcome = outcomeOf e;
-            answers = over (answersOf (partsOf (e .events))) answers;
-            certificate = over (encode (partsOf (e .events))) certificate;
-          }
-      | refusal n p ↦ record { outcome = refused n p 0 0 0 0; answers = answers; certificate = certificate }
-    ]
+    let e = cutWalk t rs allowance (length answers) (length certificate) in
+    checkedFirst c (answeredWith (answersOf (partsOf (e .events))) e answers certificate) answers certificate
 
 -- A question is put to the runs with a threshold, or with weights and a wanted weight.
 unfoldable pub query : List ℕ → List ℕ → ℕ → ℕ → List ℕ → List ℕ → Answered

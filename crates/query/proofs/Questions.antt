@@ -7,7 +7,7 @@ use mathlib.Core.Path.{_≡_, sym, ap, _∙_, subst}
 use native.Mathlib.Omega.{arith}
 use Rattle.model.specs.Compared.{wholeWalk}
 use Rattle.model.specs.Demands.{Demand2, Demand3}
-use Rattle.model.specs.Refusals.{Check, Outcome, refused, passed, refusal, firstChecks, weightedChecks, answeredBy}
+use Rattle.model.specs.Refusals.{Check, Outcome, refused, passed, refusal, firstChecks, weightedChecks, checkedFirst, answeredBy}
 use Rattle.model.specs.Runs.{Run, runs, weighted, weightOfAll, chosen}
 use Rattle.model.proofs.Demands.{demand2-by, demand3-by}
 use Rattle.model.proofs.FirstChecks.{then-second, first-passed, weighted-passed, weighted-weighs, all-length, every-run}
@@ -74,7 +74,7 @@ module _ (numbers ends ws : List ℕ) (m : ℕ) (f : m ≡ 2 ^ length ends - 1) 
   -- a question over all runs, where nothing is written yet and the whole allowance is left
   asked : (t allowance tally : ℕ) (A B A′ B′ : List ℕ) (r : End) → (leftIn tally ≡ allowance) × (halvedIn tally ≡ 0) → ComesTo numbers ends ws m t 0 0 tally A B A′ B′ r
       → answeredBy passed (weighted ws (runs numbers ends)) t allowance A B ≡ endsWith (r .number) allowance (r .at) A′ B′
-  unfolding answeredBy noCounts countsFrom
+  unfolding answeredBy checkedFirst noCounts countsFrom
   asked t allowance tally A B A′ B′ r l h =
       let z : 0 ≡ allowance - undoubled tally = omega (arith, l .0) in
       let y : 0 ≡ halvedIn tally = sym (l .1) in
@@ -98,7 +98,7 @@ module _ (numbers ends ws : List ℕ) (m : ℕ) (f : m ≡ 2 ^ length ends - 1) 
 
 module _ (c : Check) (rs : List Run) (t allowance : ℕ) (A B : List ℕ) where
   pub refused-first : (n p : ℕ) → c ≡ refusal n p → (o : Outcome) → o ≡ refused n p 0 0 0 0 → Returns (answeredBy c rs t allowance A B) o A B
-  unfolding answeredBy
+  unfolding answeredBy checkedFirst
   refused-first n p e o f = record { outcome-is = f ∙ rw e; answers-are = rw e; certificate-is = rw e }
 
   pub answered-first : c ≡ passed → (A′ B′ : List ℕ) (o : Outcome) → Returns (answeredBy passed rs t allowance A B) o A′ B′ → Returns (answeredBy c rs t allowance A B) o A′ B′
@@ -106,7 +106,7 @@ module _ (c : Check) (rs : List Run) (t allowance : ℕ) (A B : List ℕ) where
 
   -- demands 2 and 3 hold of what is returned
   pub demanded : (A′ B′ : List ℕ) (o : Outcome) → (c ≡ passed → Fit rs t) → Returns (answeredBy c rs t allowance A B) o A′ B′
-      → Returns (answeredBy c rs t allowance A B) o A′ B′ × (Demand2 c rs t o A′ B′ × Demand3 c rs t allowance A B o B′)
+      → Returns (answeredBy c rs t allowance A B) o A′ B′ × (Demand2 c rs t o A′ B′ × Demand3 c rs t allowance (length A) B o B′)
   demanded A′ B′ o g h =
       let q = answeredBy c rs t allowance A B in (
         h,
@@ -114,7 +114,7 @@ module _ (c : Check) (rs : List Run) (t allowance : ℕ) (A B : List ℕ) where
           subst (λ x. Demand2 c rs t o A′ x) (sym (h .certificate-is))
               (subst (λ x. Demand2 c rs t o x (q .certificate)) (sym (h .answers-are))
               (subst (λ x. Demand2 c rs t x (q .answers) (q .certificate)) (sym (h .outcome-is)) (demand2-by rs t allowance A B c g))),
-          subst (λ x. Demand3 c rs t allowance A B o x) (sym (h .certificate-is))
-              (subst (λ x. Demand3 c rs t allowance A B x (q .certificate)) (sym (h .outcome-is)) (demand3-by rs t allowance A B c g)),
+          subst (λ x. Demand3 c rs t allowance (length A) B o x) (sym (h .certificate-is))
+              (subst (λ x. Demand3 c rs t allowance (length A) B x (q .certificate)) (sym (h .outcome-is)) (demand3-by rs t allowance A B c g)),
         ),
       )

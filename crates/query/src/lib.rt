@@ -3,16 +3,15 @@ ghost use mathlib.Core.Path.{_≡_};
 ghost use Prim.Native.Nat.{_≤_};
 ghost use lib.ListN.{length};
 ghost use Rattle.walk_tally.specs.Tally.{undoubled};
-ghost use Rattle.walk_write.specs.Writes.{countsOf};
 ghost use Rattle.model.specs.Demands.{Demand2, Demand3};
 ghost use Rattle.model.specs.Refusals as model;
 ghost use Rattle.model.specs.Refusals.{passed, firstChecks, weightedChecks, answeredBy, query, queryWeighted};
 ghost use Rattle.model.specs.Runs.{runs, weighted};
-ghost use Rattle.walk_progress.specs.Progress.{outcomeAt};
+ghost use Rattle.walk_progress.specs.Progress.{outcomeAt, countsWith};
 ghost use Rattle.query.specs.Answerable.{Answerable};
 ghost use Rattle.query.specs.Outcomes.{outcomeIs, Returns};
 use first_checks::Checked;
-use walk_rounds::End;
+use walk_write::State;
 
 // What a question returns: the counts, the probes by doubling and by halving among them, or the refusal's number and place with the counts.
 pub enum Outcome {
@@ -33,17 +32,16 @@ pub enum Outcome {
     },
 }
 
-// What an ended walk returns.
-fn outcome_of(end: End, allowance: u32) -> Outcome
-    requires { ⌜ undoubled (end .at .tally) ≤ allowance ⌝ }
-    ensures { λ r. ⌜ outcomeIs r ≡ outcomeAt (end .number) (countsOf allowance (end .at)) ⌝ }
+// What is returned where a refusal of this number ended a call, 0 where none did, its walk stood there, and so many answers are written.
+pub fn outcome_of(number: u8, answers: usize, w: State, allowance: u32) -> Outcome
+    requires { ⌜ undoubled (w .tally) ≤ allowance ⌝ }
+    ensures { λ r. ⌜ outcomeIs r ≡ outcomeAt number (countsWith allowance answers (w .parts) (w .bytes) (w .tally)) ⌝ }
 {
-    let w = end.at;
     let doublings = walk_tally::doublings(allowance, w.tally);
     let halvings = walk_tally::halvings(w.tally);
-    if end.number == 0 {
+    if number == 0 {
         return Outcome::Accepted {
-            answers: w.answers,
+            answers: answers,
             parts: w.parts,
             bytes: w.bytes,
             doublings: doublings,
@@ -51,9 +49,9 @@ fn outcome_of(end: End, allowance: u32) -> Outcome
         };
     }
     Outcome::Refused {
-        number: end.number,
+        number: number,
         place: w.parts,
-        answers: w.answers,
+        answers: answers,
         bytes: w.bytes,
         doublings: doublings,
         halvings: halvings,
@@ -89,7 +87,7 @@ fn answer_with(
         walk_tally::whole(allowance),
         firsts,
     );
-    outcome_of(end, allowance)
+    outcome_of(end.number, end.at.answers, end.at, allowance)
 }
 
 // The same with a row of its own.
@@ -120,7 +118,7 @@ fn answer(
 }
 
 // A refusal by the first checks.
-fn refused(number: u8, place: usize) -> Outcome
+pub fn refused(number: u8, place: usize) -> Outcome
     ensures { λ r. ⌜ outcomeIs r ≡ model.refused number place 0 0 0 0 ⌝ }
 {
     Outcome::Refused {
@@ -144,7 +142,7 @@ pub fn query(
 ) -> Outcome
     ensures returns { λ r. ⌜ Returns (query (now (numbers .entry)) (now (ends .entry)) threshold allowance (now (answers .entry)) (now (certificate .entry))) (outcomeIs r) (now (answers .exit)) (now (certificate .exit)) ⌝ }
     ensures demand2 { λ r. ⌜ Demand2 (firstChecks (now (numbers .entry)) (now (ends .entry)) threshold) (runs (now (numbers .entry)) (now (ends .entry))) threshold (outcomeIs r) (now (answers .exit)) (now (certificate .exit)) ⌝ }
-    ensures demand3 { λ r. ⌜ Demand3 (firstChecks (now (numbers .entry)) (now (ends .entry)) threshold) (runs (now (numbers .entry)) (now (ends .entry))) threshold allowance (now (answers .entry)) (now (certificate .entry)) (outcomeIs r) (now (certificate .exit)) ⌝ }
+    ensures demand3 { λ r. ⌜ Demand3 (firstChecks (now (numbers .entry)) (now (ends .entry)) threshold) (runs (now (numbers .entry)) (now (ends .entry))) threshold allowance (length (now (answers .entry))) (now (certificate .entry)) (outcomeIs r) (now (certificate .exit)) ⌝ }
 {
     match first_checks::first_checks(numbers, ends, threshold) {
         Checked::Refused { number, place } => refused(number, place),
@@ -173,7 +171,7 @@ pub fn query_weighted(
 ) -> Outcome
     ensures returns { λ r. ⌜ Returns (queryWeighted (now (numbers .entry)) (now (ends .entry)) (now (weights .entry)) wanted allowance (now (answers .entry)) (now (certificate .entry))) (outcomeIs r) (now (answers .exit)) (now (certificate .exit)) ⌝ }
     ensures demand2 { λ r. ⌜ Demand2 (weightedChecks (now (numbers .entry)) (now (ends .entry)) (now (weights .entry)) wanted) (weighted (now (weights .entry)) (runs (now (numbers .entry)) (now (ends .entry)))) wanted (outcomeIs r) (now (answers .exit)) (now (certificate .exit)) ⌝ }
-    ensures demand3 { λ r. ⌜ Demand3 (weightedChecks (now (numbers .entry)) (now (ends .entry)) (now (weights .entry)) wanted) (weighted (now (weights .entry)) (runs (now (numbers .entry)) (now (ends .entry)))) wanted allowance (now (answers .entry)) (now (certificate .entry)) (outcomeIs r) (now (certificate .exit)) ⌝ }
+    ensures demand3 { λ r. ⌜ Demand3 (weightedChecks (now (numbers .entry)) (now (ends .entry)) (now (weights .entry)) wanted) (weighted (now (weights .entry)) (runs (now (numbers .entry)) (now (ends .entry)))) wanted allowance (length (now (answers .entry))) (now (certificate .entry)) (outcomeIs r) (now (certificate .exit)) ⌝ }
 {
     match first_checks::weighted_checks(numbers, ends, weights, wanted) {
         Checked::Refused { number, place } => refused(number, place),

@@ -1,6 +1,5 @@
 -- One question of a call: from how its walk ended to what the call then comes to. Assumes nothing.
-use Prim.Native.Nat.{ℕ, zero, suc, _+_, _-_, _*_, _^_, _≤_, _<_}
-use lib.Count.{ones}
+use Prim.Native.Nat.{ℕ, zero, suc, _+_, _-_, _*_, _≤_, _<_}
 use lib.ListN.{length, getD, drop, set, drop-of-length-le}
 use lib.Seq.{drop-cons}
 use mathlib.Core.List.{List, [], _∷_}
@@ -12,15 +11,14 @@ use Rattle.field_write.proofs.Placed.{placed-sets}
 use Rattle.model.specs.Many.{refusal-in}
 use Rattle.model.specs.Compared.{wholeWalk}
 use Rattle.model.specs.Refusals.{passed, listChecks, chosenChecks}
-use Rattle.model.specs.Runs.{runs, weightOfAll, chosen}
-use Rattle.model.proofs.FirstChecks.{then-second, chosen-weighs}
-use Rattle.model.proofs.Plain.{all-plain, chosen-plain}
-use Rattle.model.proofs.Weighted.{weighted-none}
+use Rattle.model.specs.Runs.{runs}
+use Rattle.model.proofs.FirstChecks.{then-second}
 use Rattle.query_progress.specs.Calls.{callEnded, callOnward}
 use Rattle.query_progress.proofs.Calls.{Fits, after, Told, told, next-on, next-stop, next-fits, call-done}
 use Rattle.walk_progress.specs.Progress.{probesSo, onward}
 use Rattle.walk_rounds.specs.declared.End.{End}
-use Rattle.walk_whole.specs.Whole.{askedRuns, countsFrom, ComesTo}
+use Rattle.walk_whole.proofs.Plain.{plain-asked}
+use Rattle.walk_whole.specs.Whole.{countsFrom, ComesTo}
 use Rattle.walk_tally.specs.Tally.{undoubled}
 use Rattle.walk_write.specs.Writes.{countsOf, endsWith}
 use Rattle.query_each.specs.Questions.{countsSo, Fitted, Rows, fromQuestion, endOf, Asks, Answers}
@@ -37,13 +35,6 @@ told-so R q a b h =
 pub lists-checked : (numbers ends : List ℕ) (m t : ℕ) → chosenChecks numbers ends m t ≡ passed → listChecks numbers ends ≡ passed
 unfolding chosenChecks
 lists-checked numbers ends m t e = then-second _ _ (then-second _ _ (then-second _ _ e))
-
--- where no weights are given, the runs of a question are those that its mask chooses, and weigh as much as they are many
-plain-asked : (numbers ends : List ℕ) (m : ℕ) → askedRuns numbers ends [] m ≡ chosen m (runs numbers ends)
-plain-asked numbers ends m = weighted-none (chosen m (runs numbers ends)) (chosen-plain m (all-plain numbers ends))
-
-pub plain-weighs : (numbers ends : List ℕ) (m : ℕ) → m < 2 ^ length ends → weightOfAll (askedRuns numbers ends [] m) ≡ ones m
-plain-weighs numbers ends m h = ap weightOfAll (plain-asked numbers ends m) ∙ chosen-weighs numbers ends m h
 
 module _ (numbers ends : List ℕ) (m u t q : ℕ) (w : Totals) (A B R A′ B′ : List ℕ) (t-is : u ≡ t) (room : 2 * q + 2 ≤ length R) (fitted : Fitted A B w) (e : End)
     (comes : ComesTo numbers ends [] m u (w .answers) (w .bytes) (w .tally) A B A′ B′ e) where

@@ -15,14 +15,14 @@ use Rattle.model.specs.Walk.{Event}
 use Rattle.model.proofs.Cutting.{Fitted, cut-fitted, cut-within, parts-bytes}
 use Rattle.model.proofs.Events.{parts-append, cost-append, both-kinds}
 use Rattle.model.proofs.Many.{answers-writing, bytes-writing, left-probes, walks-on, walks-stop, ending-on, ending-here, reached-on, reached-stop}
-use Rattle.walk_progress.specs.Progress.{Counts, noCounts, probesSo, outcomeAt, ended, countsAfter, roomAt, finish, onward}
-use Rattle.walk_progress.proofs.Progress.{counts-same, counts-none, placed-on, placed-none, placed-keeps}
+use Rattle.walk_progress.specs.Progress.{Counts, noCounts, probesSo, outcomeAt, ended, countsMore, countsAfter, roomWith, roomAt, onward}
+use Rattle.walk_progress.proofs.Progress.{counts-same, counts-none, outcome-same, onward-writes, placed-on, placed-none, placed-keeps}
 use Rattle.query_progress.specs.Calls.{callOutcome, callEnded, callOnward}
 
 -- ---- the counts
 
 counts-more : (c : Counts) (es ds : List Event) → countsAfter c (es ++ ds) ≡ countsAfter (countsAfter c es) ds
-unfolding countsAfter doublingsOf halvingsOf
+unfolding countsMore doublingsOf halvingsOf
 counts-more c es ds =
     let a = ap length (answers-writing .more es ds) ∙ length-append (answersOf (partsOf es)) (answersOf (partsOf ds)) in
     let p = ap length (parts-append es ds) ∙ length-append (partsOf es) (partsOf ds) in
@@ -32,27 +32,6 @@ counts-more c es ds =
     counts-same (omega arith) (omega arith) (omega arith) (omega arith) (omega arith)
 
 -- ---- one question
-
--- an outcome tells the refusal's number and the counts
-outcome-same : (n k : ℕ) (c d : Counts) → outcomeAt n c ≡ outcomeAt k d → (n ≡ k) × (c ≡ d)
-unfolding outcomeAt
-outcome-same zero zero c d e =
-    let a : c .answers ≡ d .answers = cc in
-    let p : c .parts ≡ d .parts = cc in
-    let b : c .bytes ≡ d .bytes = cc in
-    let k : c .doublings ≡ d .doublings = cc in
-    let h : c .halvings ≡ d .halvings = cc in
-    (refl, counts-same a p b k h)
-outcome-same zero (suc k) c d e = absurd (let z : _≡_ {A = ℕ} 0 1 = cc in omega arith)
-outcome-same (suc n) zero c d e = absurd (let z : _≡_ {A = ℕ} 0 1 = cc in omega arith)
-outcome-same (suc n) (suc k) c d e =
-    let i : suc n ≡ suc k = cc in
-    let a : c .answers ≡ d .answers = cc in
-    let p : c .parts ≡ d .parts = cc in
-    let b : c .bytes ≡ d .bytes = cc in
-    let k : c .doublings ≡ d .doublings = cc in
-    let h : c .halvings ≡ d .halvings = cc in
-    (i, counts-same a p b k h)
 
 -- The counts fit the allowance and the buffers.
 pub record Fits (allowance : ℕ) (c : Counts) (A B : List ℕ) : Type 0 where
@@ -76,21 +55,21 @@ module _ (allowance q : ℕ) (c : Counts) (A B R : List ℕ) (rs : List Run) (m 
   room = cut-fitted (roomAt allowance c A B) (wholeWalk t (chosen m rs))
 
   answers-size : length A₁ ≡ length A
-  unfolding roomAt
+  unfolding roomWith
   answers-size =
       let r = room .answers in
       let f = fits .answers in
       placed-keeps A (answersOf (partsOf (walked .events))) (c .answers) (omega arith)
 
   bytes-size : length B₁ ≡ length B
-  unfolding roomAt
+  unfolding roomWith
   bytes-size =
       let r = room .bytes in
       let f = fits .bytes in
       placed-keeps B (encode (partsOf (walked .events))) (c .bytes) (omega arith)
 
   room-after : leftAfter (roomAt allowance c A B) (walked .events) ≡ roomAt allowance (countsAfter c (walked .events)) A₁ B₁
-  unfolding roomAt countsAfter probesSo
+  unfolding roomWith countsMore probesSo
   room-after =
       let k = both-kinds (walked .events) in
       let p = left-probes (roomAt allowance c A B) (walked .events) in
@@ -109,7 +88,7 @@ module _ (allowance q : ℕ) (c : Counts) (A B R : List ℕ) (rs : List Run) (m 
       → callOnward allowance q c A B R rs (m ∷ ms) (t ∷ ts)
       ≡ callOnward allowance (suc q) (countsAfter c (walked .events)) A₁ B₁
       (placed R (2 * q) ((c .answers + length (answersOf (partsOf (walked .events)))) ∷ ((c .bytes + length (encode (partsOf (walked .events)))) ∷ []))) rs ms ts
-  unfolding callOnward eventsOf countsAfter
+  unfolding callOnward eventsOf countsMore
   call-on z l =
       let ws = walks (leftAfter (roomAt allowance c A B) (walked .events)) rs ms ts in
       let a′ = c .answers + length (answersOf (partsOf (walked .events))) in
@@ -169,7 +148,7 @@ module _ (allowance q : ℕ) (c : Counts) (A B R : List ℕ) (rs : List Run) (m 
 
   -- the counts after it
   pub fits-after : Fits allowance (countsAfter c (walked .events)) A₁ B₁
-  unfolding countsAfter roomAt probesSo
+  unfolding countsMore roomWith probesSo
   fits-after =
       let j = both-kinds (walked .events) in
       let p = fits .probes in
@@ -200,8 +179,10 @@ module _ (allowance q : ℕ) (c : Counts) (A B R : List ℕ) (rs : List Run) (m 
       (wholeWalk t (chosen m rs))
       ≡ ended number d A′ B′
       → Told number d A′ B′
-  unfolding onward finish ended countsAfter roomAt probesSo
-  told number d A′ B′ e =
+  unfolding ended countsMore roomWith probesSo
+  told number d A′ B′ h =
+      let c₀ : Counts = record { answers = c .answers; parts = 0; bytes = c .bytes; doublings = c .doublings; halvings = c .halvings } in
+      let e = sym (onward-writes allowance c₀ A B (wholeWalk t (chosen m rs)) (fits .answers)) ∙ h in
       let o = outcome-same (walked .refused) number _ d (ap (λ (x : Answered). x .outcome) e) in
       record {
         refused = o .0;
@@ -220,7 +201,7 @@ module _ (allowance q : ℕ) (c : Counts) (A B R : List ℕ) (rs : List Run) (m 
 
   module _ (number : ℕ) (d : Counts) (A′ B′ : List ℕ) (end : Told number d A′ B′) where
     counts-after : countsAfter c (walked .events) ≡ after d
-    unfolding countsAfter
+    unfolding countsMore
     counts-after = counts-same (end .answers) (ap (λ n. c .parts + n) (end .parts)) (end .bytes) (end .doublings) (end .halvings)
 
     pub next-on : number ≡ 0 → 2 * q + 2 ≤ length R
@@ -256,7 +237,7 @@ placed-over l xs = let e : 0 + length xs ≡ length xs = omega arith in ap (λ n
 
 -- the outcome of walks from the call's start
 outcome-start : (d : ManyCheck) (es : List Event) → manyOutcome d es ≡ callOutcome d (countsAfter noCounts es)
-unfolding manyOutcome callOutcome countsAfter noCounts
+unfolding manyOutcome callOutcome countsMore noCounts
 outcome-start all-passed es =
     let e₁ : length (answersOf (partsOf es)) ≡ 0 + length (answersOf (partsOf es)) = omega arith in
     let e₂ : length (partsOf es) ≡ 0 + length (partsOf es) = omega arith in
@@ -275,7 +256,7 @@ outcome-start (refusal-in q n p) es =
 pub call-start : (allowance : ℕ) (A B R : List ℕ) (rs : List Run) (ms ts : List ℕ)
     → (let ws = walks (record { probes = allowance; answers = length A; bytes = length B }) rs ms ts in answeredMany (ending 0 ws) ws A B R)
     ≡ callOnward allowance 0 noCounts A B R rs ms ts
-unfolding callOnward answeredMany callEnded roomAt noCounts probesSo
+unfolding callOnward answeredMany callEnded roomWith noCounts probesSo
 call-start allowance A B R rs ms ts = Started ∙ ap Rest rooms
   where
     Rest : Room → AnsweredMany

@@ -1,5 +1,6 @@
 // The C boundary, `include/quorum.h`: each call writes what it returns into a row of 64-bit numbers.
 ghost use mathlib.Core.Path.{_≡_};
+ghost use Rattle.model.specs.Alone.{queryAlone};
 ghost use Rattle.model.specs.Many.{queryMany};
 ghost use Rattle.model.specs.Refusals.{query, queryWeighted, check, checkChosen, checkWeighted};
 ghost use Rattle.bound.specs.Bound.{probeBound, probeBoundChosen};
@@ -88,6 +89,24 @@ pub extern "C" fn quorum_query_weighted(
         certificate,
     );
     quorum_rows::put_outcome(outcome, result);
+}
+
+#[no_mangle]
+pub extern "C" fn quorum_query_alone(
+    numbers: &[u32],
+    ends: &[u32],
+    threshold: u32,
+    allowance: u32,
+    answers: &mut [u32],
+    certificate: &mut [u8],
+    result: &mut [u64; 7],
+)
+    ensures row { λ r. ⌜ now (result .exit) ≡ outcomeRow (queryAlone (now (numbers .entry)) (now (ends .entry)) threshold allowance (now (answers .entry)) (now (certificate .entry)) .outcome) ⌝ }
+    ensures answered { λ r. ⌜ now (answers .exit) ≡ queryAlone (now (numbers .entry)) (now (ends .entry)) threshold allowance (now (answers .entry)) (now (certificate .entry)) .answers ⌝ }
+    ensures certified { λ r. ⌜ now (certificate .exit) ≡ queryAlone (now (numbers .entry)) (now (ends .entry)) threshold allowance (now (answers .entry)) (now (certificate .entry)) .certificate ⌝ }
+{
+    let found = query_alone::query_alone(numbers, ends, threshold, allowance, answers, certificate);
+    quorum_rows::put_outcome(found, result);
 }
 
 #[no_mangle]

@@ -47,7 +47,7 @@ searched-rises : (v : ℕ) {a : ℕ} (r : Run) → Rise a (r .bins) → v ≤ pa
 searched-rises v r h b = subst (λ (x : Run). Rise v (x .bins)) (sym (searched-bins v (r .label) (r .weight) (r .bins) h b)) (rise-from v (r .bins) h)
 
 module _ (numbers ends ws positions keys A B : List ℕ) (m t v : ℕ) (w : State) (n named : ℕ) (s : Stands numbers ends ws positions keys t w)
-    (c : Chooses m numbers ends ws positions t) (fits : Fitted A B w) (adv : Advances m numbers ends ws positions t v)
+    (c : Chooses m numbers ends ws positions t) (fits : Fitted B w) (adv : Advances m numbers ends ws positions t v)
     (counts : n ≡ belowCount (v * 256) (drop (w .start) keys)) (names : named ≡ labelSum (take n (drop (w .start) keys))) where
   abbrev rs : List Run
   rs = runsAt 0 numbers positions ends
@@ -186,12 +186,10 @@ module _ (numbers ends ws positions keys A B : List ℕ) (m t v : ℕ) (w : Stat
       chooses-there : Chooses m numbers ends ws positions′ t
       chooses-there = chooses-moved numbers ends ws positions m t c (searched v) (searched-keeps v) positions′ runs-now
 
-      pub stands-there : Stands numbers ends ws positions′ keys′ t (searchedState start tally weight) × Fitted A B′ (searchedState start tally weight)
+      pub stands-there : Stands numbers ends ws positions′ keys′ t (searchedState start tally weight) × Fitted B′ (searchedState start tally weight)
       stands-there =
           let b = adv .bin in
-          let k = g .0 in
-          let a = k .answers in
-          let f = fits .answered in (
+          let k = g .0 in (
             record {
               few = s .few;
               some = s .some;
@@ -203,7 +201,7 @@ module _ (numbers ends ws positions keys A B : List ℕ) (m t v : ℕ) (w : Stat
               bin = b;
               allowed = let l = still-allowed in let o = s .allowed in omega arith;
             },
-            record { answered = omega arith; written = k .written; parts = k .parts },
+            record { written = k .written; parts = k .parts },
           )
 
       to-settle : (allowance k : ℕ) → undoubled (w .tally) ≤ allowance → goesOn allowance w A B (round (walk k t) t (w .floor) cs)

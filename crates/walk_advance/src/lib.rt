@@ -24,7 +24,7 @@ pub fn advance(
     v: u32,
     w: State,
 ) -> Turn
-    requires { ⌜ Stands (now numbers) (now ends) (now weights) (now positions) (now keys) threshold w × Chooses chosen (now numbers) (now ends) (now weights) (now positions) threshold × Fitted (now answers) (now certificate) w × Advances chosen (now numbers) (now ends) (now weights) (now positions) threshold v ⌝ }
+    requires { ⌜ Stands (now numbers) (now ends) (now weights) (now positions) (now keys) threshold w × Chooses chosen (now numbers) (now ends) (now weights) (now positions) threshold × Fitted (now certificate) w × Advances chosen (now numbers) (now ends) (now weights) (now positions) threshold v ⌝ }
     ensures goes { λ r. ⌜ Goes (λ n. round (walk n threshold) threshold (w .floor) (chosenAt (now (weights .entry)) chosen (now (numbers .entry)) (now (positions .entry)) (now (ends .entry)))) chosen (now (numbers .entry)) (now (ends .entry)) (now (weights .entry)) threshold w (now (answers .entry)) (now (certificate .entry)) (now (positions .exit)) (now (keys .exit)) (now (answers .exit)) (now (certificate .exit)) r ⌝ }
     ensures raises { λ r. ⌜ Raises (w .floor) r ⌝ }
 {

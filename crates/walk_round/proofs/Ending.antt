@@ -30,7 +30,7 @@ use Rattle.walk_state.proofs.Choosing.{idle-in-play}
 use Rattle.walk_state.specs.State.{runsAt, chosenAt, InOrder}
 
 module _ (numbers ends ws positions keys A B : List ℕ) (m t : ℕ) (w : State) (s : Stands numbers ends ws positions keys t w)
-    (c : Chooses m numbers ends ws positions t) (fits : Fitted A B w) where
+    (c : Chooses m numbers ends ws positions t) (fits : Fitted B w) where
   abbrev cs : List Run
   cs = chosenAt ws m numbers positions ends
 

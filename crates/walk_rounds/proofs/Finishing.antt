@@ -18,7 +18,7 @@ use Rattle.walk_state.specs.State.{chosenAt}
 pub record Made (numbers ends ws : List ℕ) (m t : ℕ) (rs : List Run) (w : State) (A B positions keys A′ B′ : List ℕ) (x : State) : Type 0 where
   pub stands : Stands numbers ends ws positions keys t x
   pub chooses : Chooses m numbers ends ws positions t
-  pub fits : Fitted A′ B′ x
+  pub fits : Fitted B′ x
   pub left : undoubled (x .tally) ≤ undoubled (w .tally)
   pub made : ℕ
   pub raised : w .floor + made ≤ x .floor
@@ -26,7 +26,7 @@ pub record Made (numbers ends ws : List ℕ) (m t : ℕ) (rs : List Run) (w : St
       → goesOn allowance w A B (walk (made + n) t (w .floor) rs) ≡ goesOn allowance x A′ B′ (walk n t (x .floor) (chosenAt ws m numbers positions ends))
 
 pub made-none : (numbers ends ws : List ℕ) (m t : ℕ) (w : State) (A B positions keys : List ℕ) → Stands numbers ends ws positions keys t w
-    → Chooses m numbers ends ws positions t → Fitted A B w
+    → Chooses m numbers ends ws positions t → Fitted B w
     → Made numbers ends ws m t (chosenAt ws m numbers positions ends) w A B positions keys A B w
 made-none numbers ends ws m t w A B positions keys s c f =
     record {

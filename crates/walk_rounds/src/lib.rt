@@ -25,7 +25,7 @@ pub fn all_rounds(
     certificate: &mut [u8],
     w: State,
 ) -> End
-    requires { ⌜ Stands (now numbers) (now ends) (now weights) (now positions) (now keys) threshold w × Chooses chosen (now numbers) (now ends) (now weights) (now positions) threshold × Fitted (now answers) (now certificate) w ⌝ }
+    requires { ⌜ Stands (now numbers) (now ends) (now weights) (now positions) (now keys) threshold w × Chooses chosen (now numbers) (now ends) (now weights) (now positions) threshold × Fitted (now certificate) w ⌝ }
     ensures { λ r. ⌜ Finishes (chosenAt (now (weights .entry)) chosen (now (numbers .entry)) (now (positions .entry)) (now (ends .entry))) threshold w (now (answers .entry)) (now (certificate .entry)) (now (answers .exit)) (now (certificate .exit)) r ⌝ }
 {
     let mut x = w;

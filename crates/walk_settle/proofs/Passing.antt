@@ -176,7 +176,7 @@ module _ (numbers ends ws positions keys : List ℕ) (t : ℕ) (w : State) (n na
         i,
         (λ allowance. refl),
         refl,
-        λ A B f. record { answered = f .answered; written = f .written; parts = f .parts },
+        λ B f. record { written = f .written; parts = f .parts },
       )
 
   pub passed-last : w .floor ≡ lastBin → (positions′ keys′ : List ℕ) → Passes numbers ends ws positions t w positions′ keys′ (Done w)

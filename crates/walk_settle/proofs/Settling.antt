@@ -142,7 +142,7 @@ module _ (numbers ends ws positions keys : List ℕ) (t : ℕ) (w : State) (n na
           settle-answers (walk k t) t (w .floor) cs (is-answer h) e
           ∙ ap (λ x. wrote (answer (w .floor) x) ∷ walk k t (suc (w .floor)) (map (movedOn (w .floor)) cs)) (sym mask-is)
 
-    pub no-answer : Fitted A B w → held < t → Ensured positions keys A B (On w)
+    pub no-answer : Fitted B w → held < t → Ensured positions keys A B (On w)
     no-answer f h =
         let e = weight ∙ weight-is in
         ((λ m c. (s, c, f, omega arith, λ allowance k l. ap (goesOn allowance w A B) (passes-it m c h k))), inl (refl, omega arith))
@@ -202,7 +202,7 @@ module _ (numbers ends ws positions keys : List ℕ) (t : ℕ) (w : State) (n na
           (λ m c. (
             p .0,
             chooses-moved numbers ends ws positions m t c (movedOn (x .floor)) (moved-keeps (x .floor)) positions′ (p .3),
-            p .6 A′ B′ (a .0),
+            p .6 B′ (a .0),
             omega arith,
             λ allowance k o.
                 let moved = chosen-moved numbers ends ws positions m t c (movedOn (x .floor)) (moved-keeps (x .floor)) positions′ (p .3) in

@@ -38,7 +38,7 @@ pub record Chooses (m : ℕ) (numbers ends weights positions : List ℕ) (t : �
 -- what a walk over the runs that a mask chooses comes to after these events, of which the last are rounds of any number
 abbrev pub Goes : (ℕ → List Event) → ℕ → List ℕ → List ℕ → List ℕ → ℕ → State → List ℕ → List ℕ → List ℕ → List ℕ → List ℕ → List ℕ → Turn → Type 0
 Goes es m numbers ends weights t w answers certificate positions′ keys′ answers′ certificate′ (On w′) =
-    Stands numbers ends weights positions′ keys′ t w′ × Chooses m numbers ends weights positions′ t × Fitted answers′ certificate′ w′ × (undoubled (w′ .tally) ≤ undoubled (w .tally))
+    Stands numbers ends weights positions′ keys′ t w′ × Chooses m numbers ends weights positions′ t × Fitted certificate′ w′ × (undoubled (w′ .tally) ≤ undoubled (w .tally))
     × ((allowance n : ℕ) → undoubled (w .tally) ≤ allowance → goesOn allowance w answers certificate (es n)
     ≡ goesOn allowance w′ answers′ certificate′ (walk n t (w′ .floor) (chosenAt weights m numbers positions′ ends)))
 Goes es m numbers ends weights t w answers certificate positions′ keys′ answers′ certificate′ (Done w′) =
@@ -66,6 +66,6 @@ Passes numbers ends weights positions t w positions′ keys′ (On w′) =
     Stands numbers ends weights positions′ keys′ t w′ × (w .floor < lastBin) × (w′ .floor ≡ suc (w .floor))
     × (runsAt 0 numbers positions′ ends ≡ map (movedOn (w .floor)) (runsAt 0 numbers positions ends))
     × ((allowance : ℕ) → countsOf allowance w′ ≡ countsOf allowance w) × (w′ .tally ≡ w .tally)
-    × ((answers certificate : List ℕ) → Fitted answers certificate w → Fitted answers certificate w′)
+    × ((certificate : List ℕ) → Fitted certificate w → Fitted certificate w′)
 Passes numbers ends weights positions t w positions′ keys′ (Done w′) = (w .floor ≡ lastBin) × (w′ ≡ w)
 Passes numbers ends weights positions t w positions′ keys′ (Stopped x w′) = ⊥

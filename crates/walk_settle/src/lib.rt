@@ -76,7 +76,7 @@ pub fn settle(
     certificate: &mut [u8],
     w: State,
 ) -> Turn
-    requires { ⌜ Stands (now numbers) (now ends) (now weights) (now positions) (now keys) threshold w × Fitted (now answers) (now certificate) w ⌝ }
+    requires { ⌜ Stands (now numbers) (now ends) (now weights) (now positions) (now keys) threshold w × Fitted (now certificate) w ⌝ }
     ensures goes { λ r. ⌜ ((m : ℕ) → Chooses m (now (numbers .entry)) (now (ends .entry)) (now (weights .entry)) (now (positions .entry)) threshold → Goes (λ n. settle (walk n threshold) threshold (w .floor) (chosenAt (now (weights .entry)) m (now (numbers .entry)) (now (positions .entry)) (now (ends .entry)))) m (now (numbers .entry)) (now (ends .entry)) (now (weights .entry)) threshold w (now (answers .entry)) (now (certificate .entry)) (now (positions .exit)) (now (keys .exit)) (now (answers .exit)) (now (certificate .exit)) r) ⌝ }
     ensures settles { λ r. ⌜ Settles (weighted (now (weights .entry)) (runsAt 0 (now (numbers .entry)) (now (positions .entry)) (now (ends .entry)))) threshold (w .floor) r ⌝ }
 {

@@ -36,7 +36,7 @@ abbrev pub firstState : ℕ → ℕ → ℕ → ℕ → ℕ → State
 firstState start answered written tally weight = record { floor = 1; start = start; answers = answered; parts = 0; bytes = written; tally = tally; weight = weight }
 
 module _ (numbers ends ws firsts : List ℕ) (m t : ℕ) (positions keys A B : List ℕ) (answered written tally : ℕ)
-    (b : Begins numbers ends ws firsts m t positions keys A B answered written tally) where
+    (b : Begins numbers ends ws firsts m t positions keys B written tally) where
   pub begin-ready : BeginReady numbers ends firsts m positions keys
   begin-ready =
       record { few = b .asked .few; inside = b .asked .placed .inside; only = b .asked .only; size = b .positions-size; keys-size = b .keys-size }
@@ -78,7 +78,7 @@ module _ (numbers ends ws firsts : List ℕ) (m t : ℕ) (positions keys A B : L
         omega arith
 
     pub stands-first : (weight : ℕ) → weight ≡ sumOf (keyWeight ws) (drop start keys′) → Stands numbers ends ws positions′ keys′ t (firstState start answered written tally weight) × Chooses m numbers ends ws positions′ t
-        × Fitted A B (firstState start answered written tally weight)
+        × Fitted B (firstState start answered written tally weight)
     stands-first weight carried = (
       record {
         few = b .asked .few;
@@ -90,7 +90,7 @@ module _ (numbers ends ws firsts : List ℕ) (m t : ℕ) (positions keys A B : L
         allowed = b .asked .allowed;
       },
       record { only = b .asked .only; enough = met; idle = subst (λ x. Idle m x) (sym (h .runs-are)) (standing-idle m (runs numbers ends)) },
-      record { answered = b .asked .answers-fit; written = b .asked .bytes-fit; parts = omega arith },
+      record { written = b .asked .bytes-fit; parts = omega arith },
     )
 
     -- the chosen runs are at their first bins

@@ -16,9 +16,9 @@ use Rattle.walk_write.specs.Writes.{endsWith}
 abbrev pub askedRuns : List ℕ → List ℕ → List ℕ → ℕ → List Run
 askedRuns numbers ends weights m = weighted weights (chosen m (runs numbers ends))
 
--- a question that passed the first checks, with a weight for each run or none; the places of its runs' first bins, buffers in which so many answers and bytes stand,
--- and the tally of an allowance of 32 bits
-pub record Asked (numbers ends weights firsts : List ℕ) (m t : ℕ) (answers certificate : List ℕ) (answered written tally : ℕ) : Type 0 where
+-- a question that passed the first checks, with a weight for each run or none; the places of its runs' first bins, a certificate in which so many bytes stand, and the
+-- tally of an allowance of 32 bits
+pub record Asked (numbers ends weights firsts : List ℕ) (m t : ℕ) (certificate : List ℕ) (written tally : ℕ) : Type 0 where
   pub few : length ends ≤ mostRuns
   pub row : 0 < length weights → length weights ≡ length ends
   pub only : m < 2 ^ length ends
@@ -26,13 +26,12 @@ pub record Asked (numbers ends weights firsts : List ℕ) (m t : ℕ) (answers c
   pub met : t ≤ weightOfAll (askedRuns numbers ends weights m)
   pub lists : listChecks numbers ends ≡ passed
   pub placed : PlacedAt numbers ends (runs numbers ends) firsts
-  pub answers-fit : answered ≤ length answers
   pub bytes-fit : written ≤ length certificate
   pub allowed : undoubled tally < 4294967296
 
 -- the same with rows for its walk
-pub record Begins (numbers ends weights firsts : List ℕ) (m t : ℕ) (positions keys answers certificate : List ℕ) (answered written tally : ℕ) : Type 0 where
-  pub asked : Asked numbers ends weights firsts m t answers certificate answered written tally
+pub record Begins (numbers ends weights firsts : List ℕ) (m t : ℕ) (positions keys certificate : List ℕ) (written tally : ℕ) : Type 0 where
+  pub asked : Asked numbers ends weights firsts m t certificate written tally
   pub positions-size : length positions ≡ length ends
   pub keys-size : length keys ≡ length ends
 

@@ -5,8 +5,8 @@ use walk_rounds::End;
 use walk_write::State;
 
 // The walk over the chosen runs, from its beginning to its end. `weights` has a weight for each run, or none: then each weighs 1. `firsts` holds the places of all
-// runs' first bins. `answered` answers and `written` bytes stand in
-// the buffers, and the walk writes after them; `tally` tells how its probes are spent so far (walk_tally). Parts are counted from 0.
+// runs' first bins. `answered` answers and `written` bytes stand in the buffers, and the walk writes after them; `answered` above the length of `answers` tells it not to
+// write answers. `tally` tells how its probes are spent so far (walk_tally). Parts are counted from 0.
 fn whole_walk(
     numbers: &[u32],
     ends: &[u32],
@@ -22,7 +22,7 @@ fn whole_walk(
     tally: u64,
     firsts: &[u32],
 ) -> End
-    requires { ⌜ Begins (now numbers) (now ends) (now weights) (now firsts) chosen threshold (now positions) (now keys) (now answers) (now certificate) answered written tally ⌝ }
+    requires { ⌜ Begins (now numbers) (now ends) (now weights) (now firsts) chosen threshold (now positions) (now keys) (now certificate) written tally ⌝ }
     ensures { λ r. ⌜ ComesTo (now (numbers .entry)) (now (ends .entry)) (now (weights .entry)) chosen threshold answered written tally (now (answers .entry)) (now (certificate .entry)) (now (answers .exit)) (now (certificate .exit)) r ⌝ }
 {
     let start = walk_begin::begin(numbers, ends, firsts, chosen, positions, keys);
@@ -64,7 +64,7 @@ pub fn question_walk(
     tally: u64,
     firsts: &[u32],
 ) -> End
-    requires { ⌜ Asked (now numbers) (now ends) (now weights) (now firsts) chosen threshold (now answers) (now certificate) answered written tally ⌝ }
+    requires { ⌜ Asked (now numbers) (now ends) (now weights) (now firsts) chosen threshold (now certificate) written tally ⌝ }
     ensures { λ r. ⌜ ComesTo (now (numbers .entry)) (now (ends .entry)) (now (weights .entry)) chosen threshold answered written tally (now (answers .entry)) (now (certificate .entry)) (now (answers .exit)) (now (certificate .exit)) r ⌝ }
 {
     let mut positions = [0u32; limits::MOST_RUNS];

@@ -10,10 +10,10 @@ use Rattle.field_write.proofs.Stored.{stored-fits, stored-full, result-fits, re
 use Rattle.field_write.specs.Stored.{placed, stored, storedResult}
 use Rattle.field_write.specs.declared.Written.the-variants.{Next, Full}
 use Rattle.model.specs.Certificate.{answer, gap, encodePart, sizeOf}
-use Rattle.model.specs.Walk.{wrote}
+use Rattle.model.specs.Walk.{Event, wrote}
 use Rattle.model.proofs.Tests.{lt-or-le}
-use Rattle.walk_progress.specs.Progress.{onward, ended, withGap, withAnswer}
-use Rattle.walk_progress.proofs.Progress.{size-gap, size-answer, onward-gap, gap-full, onward-answer, answers-full, answer-full}
+use Rattle.walk_progress.specs.Progress.{countsWith, onward, ended, withGap, withAnswer, withUnwritten}
+use Rattle.walk_progress.proofs.Progress.{size-gap, size-answer, onward-gap, gap-full, onward-answer, onward-unwritten, answers-full, answer-full}
 use Rattle.walk_tally.specs.Tally.{halvedIn, undoubled}
 use Rattle.walk_write.specs.Writes.{countsOf, goesOn, endsWith, Fitted, Writes, gapEvents, Answers}
 use Rattle.walk_write.specs.declared.Answered.the-variants as answered′
@@ -87,53 +87,70 @@ some-gap w B B′ v named r q h = subst (λ x. Writes x w B B′ r) (sym (gap-ev
 
 -- ---- an answer
 
-abbrev pub afterAnswer : State → ℕ → State
-afterAnswer w bytes = record { floor = w .floor; start = w .start; answers = w .answers + 1; parts = w .parts + 1; bytes = bytes; tally = w .tally; weight = w .weight }
+abbrev pub afterAnswer : State → ℕ → ℕ → State
+afterAnswer w answers bytes = record { floor = w .floor; start = w .start; answers = answers; parts = w .parts + 1; bytes = bytes; tally = w .tally; weight = w .weight }
 
-pub answer-on : (w : State) (A B B′ : List ℕ) (named bytes : ℕ) → Fitted A B w → w .answers ≢ length A
+-- the answer fits the certificate: so many bytes, and what is said of the walk with the field placed
+module _ (w : State) (A A′ B B′ : List ℕ) (named bytes a : ℕ) (h : Fitted B w)
+    (e : Next bytes ≡ storedResult B (w .bytes) (answer (w .floor) named)) (f : B′ ≡ stored B (w .bytes) (answer (w .floor) named)) where
+  answer-goes : ((allowance : ℕ) (es : List Event) → w .bytes + 15 ≤ length B
+      → goesOn allowance w A B (wrote (answer (w .floor) named) ∷ es)
+      ≡ onward allowance (countsWith allowance a (w .parts + 1) (w .bytes + 15) (w .tally)) A′ (placed B (w .bytes) (encodePart (answer (w .floor) named))) es)
+      → Answers w named A B A′ B′ (answered′.On (afterAnswer w a bytes))
+  unfolding goesOn countsOf
+  answer-goes g =
+      let s = size-answer (w .floor) named in
+      let p = h .parts in
+      ⊎-elim
+      (λ (q : length B < w .bytes + sizeOf (answer (w .floor) named)).
+      let z : Next bytes ≡ Full = e ∙ result-full B (w .bytes) (answer (w .floor) named) q in
+      absurd (let y : _≡_ {A = ℕ} 0 1 = cc in omega arith))
+      (λ (q : w .bytes + sizeOf (answer (w .floor) named) ≤ length B).
+      let z : Next bytes ≡ Next (w .bytes + sizeOf (answer (w .floor) named)) = e ∙ result-fits B (w .bytes) (answer (w .floor) named) q in
+      let b : bytes ≡ w .bytes + sizeOf (answer (w .floor) named) = cc in
+      let b₁₅ : w .bytes + 15 ≡ bytes = omega arith in
+      let k : B′ ≡ placed B (w .bytes) (encodePart (answer (w .floor) named)) = f ∙ stored-fits B (w .bytes) (answer (w .floor) named) q in
+      let n = ap length f ∙ stored-length B (w .bytes) (answer (w .floor) named) in (
+        record { written = omega arith; parts = omega arith },
+        refl,
+        refl,
+        refl,
+        refl,
+        λ allowance es.
+            g allowance es (omega arith)
+            ∙ (λ i. onward allowance (countsWith allowance a (w .parts + 1) (b₁₅ i) (w .tally)) A′ (sym k i) es),
+      ))
+      (lt-or-le (length B) (w .bytes + sizeOf (answer (w .floor) named)))
+
+pub answer-on : (w : State) (A B B′ : List ℕ) (named bytes : ℕ) → Fitted B w → w .answers < length A
     → Next bytes ≡ storedResult B (w .bytes) (answer (w .floor) named) → B′ ≡ stored B (w .bytes) (answer (w .floor) named)
-    → Answers w named A B (set A (w .answers) (w .floor)) B′ (answered′.On (afterAnswer w bytes))
+    → Answers w named A B (set A (w .answers) (w .floor)) B′ (answered′.On (afterAnswer w (w .answers + 1) bytes))
 unfolding goesOn countsOf withAnswer
 answer-on w A B B′ named bytes h x e f =
-    let s = size-answer (w .floor) named in
-    let g = h .answered in
-    let p = h .parts in
-    ⊎-elim
-    (λ (q : length B < w .bytes + sizeOf (answer (w .floor) named)).
-    let z : Next bytes ≡ Full = e ∙ result-full B (w .bytes) (answer (w .floor) named) q in
-    absurd (let y : _≡_ {A = ℕ} 0 1 = cc in omega arith))
-    (λ (q : w .bytes + sizeOf (answer (w .floor) named) ≤ length B).
-    let z : Next bytes ≡ Next (w .bytes + sizeOf (answer (w .floor) named)) = e ∙ result-fits B (w .bytes) (answer (w .floor) named) q in
-    let b : bytes ≡ w .bytes + sizeOf (answer (w .floor) named) = cc in
-    let b₁₅ : w .bytes + 15 ≡ bytes = omega arith in
-    let k : B′ ≡ placed B (w .bytes) (encodePart (answer (w .floor) named)) = f ∙ stored-fits B (w .bytes) (answer (w .floor) named) q in
-    let n = ap length f ∙ stored-length B (w .bytes) (answer (w .floor) named) in
-    let m = length-set A (w .answers) (w .floor) in (
-      record { answered = omega arith; written = omega arith; parts = omega arith },
-      refl,
-      refl,
-      refl,
-      refl,
-      λ allowance es.
-          onward-answer allowance (countsOf allowance w) A B (w .floor) named es (omega arith) (omega arith)
-          ∙ (λ i. onward allowance (record { answers = w .answers + 1; parts = w .parts + 1; bytes = b₁₅ i; doublings = allowance - undoubled (w .tally); halvings = halvedIn (w .tally) })
-          (set A (w .answers) (w .floor)) (sym k i) es),
-    ))
-    (lt-or-le (length B) (w .bytes + sizeOf (answer (w .floor) named)))
+    answer-goes w A (set A (w .answers) (w .floor)) B B′ named bytes (w .answers + 1) h e f
+    (λ allowance es q. onward-answer allowance (countsOf allowance w) A B (w .floor) named es x q)
 
-pub answer-stopped : (w : State) (A B B′ : List ℕ) (named : ℕ) → Fitted A B w → w .answers ≢ length A
+-- the walk is told not to write answers
+pub answer-unwritten : (w : State) (A B B′ : List ℕ) (named bytes : ℕ) → Fitted B w → w .answers ≢ length A → length A ≤ w .answers
+    → Next bytes ≡ storedResult B (w .bytes) (answer (w .floor) named) → B′ ≡ stored B (w .bytes) (answer (w .floor) named)
+    → Answers w named A B A B′ (answered′.On (afterAnswer w (w .answers) bytes))
+unfolding goesOn countsOf withUnwritten
+answer-unwritten w A B B′ named bytes h n x e f =
+    answer-goes w A A B B′ named bytes (w .answers) h e f
+    (λ allowance es q. onward-unwritten allowance (countsOf allowance w) A B (w .floor) named es (omega arith) q)
+
+pub answer-stopped : (w : State) (A B B′ : List ℕ) (named : ℕ) → Fitted B w → w .answers ≢ length A
     → Full ≡ storedResult B (w .bytes) (answer (w .floor) named) → B′ ≡ stored B (w .bytes) (answer (w .floor) named)
     → Answers w named A B A B′ (answered′.Full 6)
 unfolding goesOn endsWith countsOf
 answer-stopped w A B B′ named h x e f =
     let s = size-answer (w .floor) named in
-    let g = h .answered in
     ⊎-elim
     (λ (q : length B < w .bytes + sizeOf (answer (w .floor) named)).
     let k : B′ ≡ B = f ∙ stored-full B (w .bytes) (answer (w .floor) named) q in (
       omega arith,
       λ allowance es.
-          answer-full allowance (countsOf allowance w) A B (w .floor) named es (omega arith) (h .written) (omega arith)
+          answer-full allowance (countsOf allowance w) A B (w .floor) named es x (h .written) (omega arith)
           ∙ ap (λ y. ended 6 (countsOf allowance w) A y) (sym k),
     ))
     (λ (q : w .bytes + sizeOf (answer (w .floor) named) ≤ length B).
@@ -144,4 +161,4 @@ answer-stopped w A B B′ named h x e f =
 pub answers-stopped : (w : State) (A B : List ℕ) (named : ℕ) → w .answers ≡ length A → Answers w named A B A B (answered′.Full 5)
 unfolding goesOn endsWith countsOf
 answers-stopped w A B named e =
-    (omega arith, λ allowance es. answers-full allowance (countsOf allowance w) A B (w .floor) named es (omega arith))
+    (omega arith, λ allowance es. answers-full allowance (countsOf allowance w) A B (w .floor) named es e)

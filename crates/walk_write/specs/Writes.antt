@@ -29,9 +29,8 @@ goesOn allowance w answers certificate es = onward allowance (countsOf allowance
 unfoldable pub endsWith : ℕ → ℕ → State → List ℕ → List ℕ → Rattle.model.specs.Refusals.Answered
 endsWith number allowance w answers certificate = ended number (countsOf allowance w) answers certificate
 
--- what is written fits the buffers
-pub record Fitted (answers certificate : List ℕ) (w : State) : Type 0 where
-  pub answered : w .answers ≤ length answers
+-- what is written fits the certificate
+pub record Fitted (certificate : List ℕ) (w : State) : Type 0 where
   pub written : w .bytes ≤ length certificate
   pub parts : w .parts ≤ w .bytes
 
@@ -59,10 +58,10 @@ Writes ds w certificate certificate′ wrote′.Full =
 unfoldable pub gapEvents : ℕ → ℕ → ℕ → List Event
 gapEvents floor v named = elim (ltb floor v) [ true ↦ wrote (gap floor (v - 1) named) ∷ [] | false ↦ [] ]
 
--- an answer is written, or a buffer is full
+-- an answer is written, into the certificate alone where the walk is told not to write answers, or a buffer is full
 abbrev pub Answers : State → ℕ → List ℕ → List ℕ → List ℕ → List ℕ → Answered → Type 0
 Answers w named answers certificate answers′ certificate′ (answered′.On w′) =
-    Fitted answers′ certificate′ w′ × (w′ .floor ≡ w .floor) × (w′ .start ≡ w .start) × (w′ .tally ≡ w .tally) × (w′ .weight ≡ w .weight)
+    Fitted certificate′ w′ × (w′ .floor ≡ w .floor) × (w′ .start ≡ w .start) × (w′ .tally ≡ w .tally) × (w′ .weight ≡ w .weight)
     × ((allowance : ℕ) (es : List Event) → goesOn allowance w answers certificate (wrote (answer (w .floor) named) ∷ es) ≡ goesOn allowance w′ answers′ certificate′ es)
 Answers w named answers certificate answers′ certificate′ (answered′.Full x) =
     (0 < x)

@@ -1,6 +1,7 @@
 // The parts that a round writes: the gap before v, the last gap, and an answer, which goes into both buffers or into neither.
 ghost use mathlib.Core.List.{_∷_, []};
-ghost use Prim.Native.Nat.{_≤_};
+ghost use mathlib.Core.Path.{_≡_};
+ghost use Prim.Native.Nat.{_+_, _≤_, _<_};
 ghost use lib.ListN.{length};
 ghost use Rattle.model.specs.Certificate.{gap};
 ghost use Rattle.model.specs.Walk.{wrote};
@@ -37,6 +38,22 @@ pub enum Turn {
     Stopped(u8, State),
 }
 
+// The state after a part up to `bytes`, `answers` being written.
+fn after_part(w: State, answers: usize, bytes: usize) -> State
+    requires { ⌜ w .parts < 18446744073709551615 ⌝ }
+    ensures { λ r. ⌜ r ≡ record { floor = w .floor; start = w .start; answers = answers; parts = w .parts + 1; bytes = bytes; tally = w .tally; weight = w .weight } ⌝ }
+{
+    State {
+        floor: w.floor,
+        start: w.start,
+        answers: answers,
+        parts: w.parts + 1,
+        bytes: bytes,
+        tally: w.tally,
+        weight: w.weight,
+    }
+}
+
 // Writes the gap from the floor to `last`.
 fn gap_to(certificate: &mut [u8], w: State, last: u32, named: u64) -> Wrote
     requires { ⌜ (w .bytes ≤ length (now certificate)) × (w .parts ≤ w .bytes) ⌝ }
@@ -46,15 +63,7 @@ fn gap_to(certificate: &mut [u8], w: State, last: u32, named: u64) -> Wrote
     else {
         return Wrote::Full;
     };
-    Wrote::On(State {
-        floor: w.floor,
-        start: w.start,
-        answers: w.answers,
-        parts: w.parts + 1,
-        bytes: bytes,
-        tally: w.tally,
-        weight: w.weight,
-    })
+    Wrote::On(after_part(w, w.answers, bytes))
 }
 
 // Writes the gap from the floor to v − 1 where the floor is below v.
@@ -80,9 +89,10 @@ pub fn last_gap(chosen: u64, keys: &[u64], certificate: &mut [u8], w: State) -> 
     Turn::Done(x)
 }
 
-// Writes the floor as an answer into both buffers, or into neither.
+// Writes the floor as an answer into both buffers, or into neither. A count of answers above the places of their buffer tells the walk not to write them: then it goes
+// into the certificate alone.
 pub fn write_answer(answers: &mut [u32], certificate: &mut [u8], w: State, named: u64) -> Answered
-    requires { ⌜ Fitted (now answers) (now certificate) w ⌝ }
+    requires { ⌜ Fitted (now certificate) w ⌝ }
     ensures { λ r. ⌜ Answers w named (now (answers .entry)) (now (certificate .entry)) (now (answers .exit)) (now (certificate .exit)) r ⌝ }
 {
     let at = w.answers;
@@ -93,14 +103,9 @@ pub fn write_answer(answers: &mut [u32], certificate: &mut [u8], w: State, named
     else {
         return Answered::Full(6);
     };
-    answers[at] = w.floor;
-    Answered::On(State {
-        floor: w.floor,
-        start: w.start,
-        answers: at + 1,
-        parts: w.parts + 1,
-        bytes: bytes,
-        tally: w.tally,
-        weight: w.weight,
-    })
+    if at < answers.len() {
+        answers[at] = w.floor;
+        return Answered::On(after_part(w, at + 1, bytes));
+    }
+    Answered::On(after_part(w, at, bytes))
 }

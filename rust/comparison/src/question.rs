@@ -287,6 +287,24 @@ impl Comparer {
         expected
     }
 
+    /// Asks with every allowance and every size of both buffers, up to one more than
+    /// the whole walk and its answers need.
+    pub fn compare_every_limit(&mut self, seed: u64, question: impl Asked) {
+        let whole = question.whole().expect("the first checks pass");
+        for allowance in 0..=whole.allowance + 1 {
+            for answers in 0..=whole.answers + 1 {
+                for bytes in 0..=whole.bytes + 1 {
+                    let limits = Limits {
+                        allowance,
+                        answers,
+                        bytes,
+                    };
+                    self.compare(seed, question, limits);
+                }
+            }
+        }
+    }
+
     /// Both buffers as the library left them in the last comparison.
     pub fn found(&self) -> (&[u32], &[u8]) {
         (self.found.answers.read(), self.found.certificate.read())

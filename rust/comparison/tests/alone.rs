@@ -130,19 +130,7 @@ fn every_limit() {
         let (numbers, ends) = lay_out(&any_runs_and_first(&mut random, k, 5));
         let threshold = random.from_to(1, k - 1) as u32;
         let question = Alone::new(&numbers, &ends, threshold);
-        let whole = question.whole().unwrap();
-        for allowance in 0..=whole.allowance + 1 {
-            for answers in 0..=whole.answers + 1 {
-                for bytes in 0..=whole.bytes + 1 {
-                    let limits = Limits {
-                        allowance,
-                        answers,
-                        bytes,
-                    };
-                    comparer.compare(seed, question, limits);
-                }
-            }
-        }
+        comparer.compare_every_limit(seed, question);
     }
     comparer.met(&[0, 5, 6, 7], 300);
 }

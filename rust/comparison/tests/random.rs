@@ -90,19 +90,7 @@ fn every_limit() {
         let (numbers, ends) = lay_out(&runs);
         let wanted = Wanted::any(&mut random, k);
         let question = Question::wanting(&numbers, &ends, &wanted);
-        let whole = whole(question).unwrap();
-        for allowance in 0..=whole.allowance + 1 {
-            for answers in 0..=whole.answers + 1 {
-                for bytes in 0..=whole.bytes + 1 {
-                    let limits = Limits {
-                        allowance,
-                        answers,
-                        bytes,
-                    };
-                    comparer.compare(seed, question, limits);
-                }
-            }
-        }
+        comparer.compare_every_limit(seed, question);
     }
     comparer.met(&[0, 5, 6, 7], 10);
 }

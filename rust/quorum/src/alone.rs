@@ -15,8 +15,8 @@ use crate::{ffi, queried, Counts, Stopped};
 /// # Errors
 ///
 /// Refusals 1 to 4 of [`Refusal`](crate::Refusal), which leave both buffers as they
-/// were: 2 if `threshold` is 0 or above the number of the other runs, so always if
-/// there is no other run; 3 and 4 for run 0 too.
+/// were: 2 if `threshold` is 0 or above the number of the other runs, so always of
+/// one run; 3 and 4 for run 0 too.
 ///
 /// Then 6 and 7 as of [`query()`](crate::query()), as soon as the walk of the other
 /// runs has something more due for which nothing is left. The parts written before
@@ -46,7 +46,7 @@ use crate::{ffi, queried, Counts, Stopped};
 /// walk of the other runs as for a [`query()`](crate::query()) about them alone: in
 /// a run whose number of bins has b binary digits, at most 2 × d × b probes, d being
 /// the parts of any true certificate of the other runs. Then one pass over the
-/// certificate and run 0 together.
+/// certificate, up to run 0's last bin, and run 0 together.
 ///
 /// # Example
 ///

@@ -123,6 +123,7 @@ fn the_order_of_the_first_checks() {
     expect_first(&[3, 3], &[9, 2], 1, 3, 1);
     expect_first(&[3, 3], &[9, 2, 1], 3, 2, 3);
     expect_first(&[3, 3], &[9, 2, 1], 2, 3, 1);
+    expect_first(&[7, 5], &[2, 1], 1, 3, 1);
     expect_first(&[3, 3], &[2, 3], 1, 3, 2);
     expect_first(&[3, 3], &[2, 2], 1, 4, 1);
     expect_first(&[3, 3], &[0, 2], 1, 4, 1);

@@ -1,67 +1,15 @@
--- `first_checks` returns the first of its checks that is not passed. Assumes nothing.
+-- `first_checks` makes its checks over as many runs as there are. Assumes nothing.
 use borrow.Author.Needs.{needs}
-use lib.ListN.{length}
-use mathlib.Core.Path.{_≡_, sym, ap, _∙_}
-use Rattle.model.specs.Refusals.{_then_, countCheck, thresholdCheck, firstChecks}
-use Rattle.first_checks.specs.Checked.{checkOf}
-use Rattle.first_checks.proofs.Order.{refused-first, passed-first, in-order}
+use Rattle.model.specs.Refusals.{firstChecks}
 use Rattle.first_checks.proofs.first_checks.Statement.{statement}
 use Rattle.first_checks.proofs.first_checks.Tie as tie
 
-usize-of-u32-requires : tie.Need-usize-of-u32-requires
-usize-of-u32-requires c κs = search needs
-
-count-check-requires : tie.Need-count-check-requires
-count-check-requires c κs = search needs
-
-threshold-check-requires : tie.Need-threshold-check-requires
-threshold-check-requires c κs = search needs
-
-first-of-requires : tie.Need-first-of-requires
-first-of-requires c κs = search needs
-
-enum-told : tie.Need-enum-told
-enum-told c = search needs
-
-enum-told-2 : tie.Need-enum-told-2
-enum-told-2 c = search needs
-
--- the checks of runs and threshold
-met-is : (c : tie.After-first-of) → (let a = c .before .before .before .before .before .before .args in checkOf (c .first-of .result) ≡ (countCheck (a .ends .now) then thresholdCheck (length (a .ends .now)) (a .threshold) (a .threshold)))
-met-is c =
-    let t = c .before in
-    let n = t .before in
-    let a = n .before .before .before .before .args in
-    let e = n .before .usize-of-u32 .ensures in
-    c .first-of .ensures
-    ∙ (λ i. n .count-check .ensures i then (t .threshold-check .ensures ∙ (λ j. thresholdCheck (length (a .ends .now)) (e j) (e j))) i)
+checks-over-requires : tie.Need-checks-over-requires
+checks-over-requires c κs = search needs
 
 returns : tie.Need-returns
 unfolding firstChecks
-returns c =
-    let e = met-is (c .before .before) in
-    e ∙ (refused-first _ _ (sym e ∙ ap checkOf (c .enum-told2 .given .1)) ∙ in-order _ _ _)
-
-list-checks-requires : tie.Need-list-checks-requires
-list-checks-requires c κs = search needs
-
-returns-2 : tie.Need-returns-2
-unfolding firstChecks
-returns-2 c =
-    let p = c .before in
-    c .list-checks .ensures
-    ∙ (passed-first _ _ (sym (met-is (p .before .before)) ∙ ap checkOf (p .enum-told .given .1)) ∙ in-order _ _ _)
+returns c = c .checks-over .ensures
 
 pub first-checks-spec : {M : Type 1} → statement M
-first-checks-spec =
-    tie.close
-    (tie.spec
-    usize-of-u32-requires
-    count-check-requires
-    threshold-check-requires
-    first-of-requires
-    enum-told
-    enum-told-2
-    returns
-    list-checks-requires
-    returns-2)
+first-checks-spec = tie.close (tie.spec checks-over-requires returns)

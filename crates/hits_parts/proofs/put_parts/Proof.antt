@@ -4,9 +4,10 @@ use Prim.Native.Nat.{_-_}
 use borrow.Author.Needs.{needs}
 use lib.ListN.{length}
 use native.Mathlib.Omega.{arith}
+use Rattle.field_read.proofs.Held.{next-part}
 use Rattle.field_read.specs.Reading.{partOf}
 use Rattle.model.proofs.Encoding.{size-pos}
-use Rattle.hits_parts.proofs.Parts.{Along, along-start, along-end, along-stop, along-on, next-part}
+use Rattle.hits_parts.proofs.Parts.{Along, along-start, along-end, along-stop, along-on}
 use Rattle.hits_parts.proofs.put_parts.Statement.{statement}
 use Rattle.hits_parts.proofs.put_parts.Tie as tie
 

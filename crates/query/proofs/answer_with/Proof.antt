@@ -2,6 +2,7 @@
 use native.Mathlib.Omega.{arith}
 use Rattle.model.proofs.FirstChecks.{lists-passed}
 use Rattle.query.specs.Outcomes.{outcomeIs}
+use Rattle.walk_write.specs.Writes.{countsOf}
 use Rattle.query.proofs.Questions.{all-only, all-met, ends-so}
 use borrow.Author.Needs.{needs}
 use Rattle.query.proofs.answer_with.Statement.{statement}
@@ -42,7 +43,6 @@ question-walk-requires c κs =
       met = all-met (a .numbers .now) (a .ends .now) (a .weights .now) (m .all-runs .result) (m .all-runs .ensures) (a .threshold) q;
       lists = q .lists;
       placed = f .first-places .ensures;
-      answers-fit = search needs;
       bytes-fit = search needs;
       allowed = omega (arith, t .whole .ensures .1);
     }
@@ -63,6 +63,7 @@ same-length-3 : tie.Need-same-length-3
 same-length-3 c = search needs
 
 returns : tie.Need-returns
+unfolding countsOf
 returns c =
     let w = c .before .before .before .before .before in
     let t = w .before .before in

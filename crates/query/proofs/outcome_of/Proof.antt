@@ -6,7 +6,6 @@ use native.Mathlib.Omega.{arith}
 use Rattle.model.specs.Refusals as model
 use Rattle.walk_progress.specs.Progress.{Counts, outcomeAt}
 use Rattle.walk_progress.proofs.Progress.{counts-same}
-use Rattle.walk_write.specs.Writes.{countsOf}
 use borrow.Author.Needs.{needs}
 use Rattle.query.proofs.outcome_of.Statement.{statement}
 use Rattle.query.proofs.outcome_of.Tie as tie
@@ -28,26 +27,24 @@ halvings-requires : tie.Need-halvings-requires
 halvings-requires c κs = search needs
 
 returns : tie.Need-returns
-unfolding countsOf
 returns c =
-    let h = c .before .before in
+    let h = c .before in
     let d = h .before in
-    let a = d .before .before .args in
-    let w = a .end .at in
-    none-at (a .end .number)
-    (record { answers = w .answers; parts = w .parts; bytes = w .bytes; doublings = d .doublings .result; halvings = h .halvings .result }) (c .if1 .taken)
-    ∙ ap (outcomeAt (a .end .number)) (counts-same refl refl refl (d .doublings .ensures) (h .halvings .ensures))
+    let a = d .before .args in
+    let w = a .w in
+    none-at (a .number)
+    (record { answers = a .answers; parts = w .parts; bytes = w .bytes; doublings = d .doublings .result; halvings = h .halvings .result }) (c .if1 .taken)
+    ∙ ap (outcomeAt (a .number)) (counts-same refl refl refl (d .doublings .ensures) (h .halvings .ensures))
 
 returns-2 : tie.Need-returns-2
-unfolding countsOf
 returns-2 c =
-    let h = c .before .before in
+    let h = c .before in
     let d = h .before in
-    let a = d .before .before .args in
-    let w = a .end .at in
-    not-none (a .end .number)
-    (record { answers = w .answers; parts = w .parts; bytes = w .bytes; doublings = d .doublings .result; halvings = h .halvings .result }) (c .if1 .left)
-    ∙ ap (outcomeAt (a .end .number)) (counts-same refl refl refl (d .doublings .ensures) (h .halvings .ensures))
+    let a = d .before .args in
+    let w = a .w in
+    not-none (a .number)
+    (record { answers = a .answers; parts = w .parts; bytes = w .bytes; doublings = d .doublings .result; halvings = h .halvings .result }) (c .if1 .left)
+    ∙ ap (outcomeAt (a .number)) (counts-same refl refl refl (d .doublings .ensures) (h .halvings .ensures))
 
 pub outcome-of-spec : {M : Type 1} → statement M
 outcome-of-spec = tie.close (tie.spec doublings-requires halvings-requires returns returns-2)

@@ -3,7 +3,8 @@ use Prim.Native.Nat.{_+_}
 use native.Mathlib.Omega.{arith}
 use Rattle.model.proofs.FirstChecks.{chosen-passed}
 use Rattle.query_each.specs.Questions.{Fitted}
-use Rattle.query_each.proofs.Asking.{lists-checked, plain-weighs, fitted-after, asks-on, asks-stopped}
+use Rattle.query_each.proofs.Asking.{lists-checked, fitted-after, asks-on, asks-stopped}
+use Rattle.walk_whole.proofs.Plain.{plain-weighs}
 use borrow.Author.Needs.{needs}
 use Rattle.query_each.proofs.question.Statement.{statement}
 use Rattle.query_each.proofs.question.Tie as tie
@@ -41,7 +42,6 @@ question-walk-requires c κs =
       met = omega (arith, p .met, plain-weighs (a .numbers .now) (a .ends .now) (a .chosen) (p .only));
       lists = lists-checked (a .numbers .now) (a .ends .now) (a .chosen) (a .threshold) (s .pre .2);
       placed = s .pre .1;
-      answers-fit = s .pre .0 .answered;
       bytes-fit = s .pre .0 .written;
       allowed = s .pre .0 .allowed;
     }

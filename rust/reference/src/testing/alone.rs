@@ -183,6 +183,13 @@ fn edges() -> Vec<AloneInstance> {
             accepted(0, 3, 53, [0, 0]),
         )
         .writing(&[], &sevens),
+        of(
+            "after a mark the last bin, and one before what the other holds",
+            &[&[0, 6, 7, M], &[0, 7]],
+            1,
+            accepted(2, 3, 53, [0, 0]),
+        )
+        .writing(&[6, M], &[gap(1, 6, 2), hit(7, 2), gap(8, M, 2)]),
         of("both ends", &[&[1, M], &[1]], 1, accepted(1, 2, 34, [0, 0]))
             .writing(&[M], &[hit(1, 2), gap(2, M, 2)]),
         of("the last bin", &[&[M], &[M]], 1, accepted(0, 2, 34, [0, 0]))
@@ -290,6 +297,7 @@ fn refusals() -> Vec<AloneInstance> {
         of("no runs", &none, 1, 1, 0),
         of("no runs and no threshold", &none, 0, 1, 0),
         of("the first run does not rise", &[&[3, 3], &[7]], 1, 4, 1),
+        of("its bin twice", &[&[7, 7], &[5]], 1, 4, 1),
         of("a mark after a bin of it", &[&[5, 0], &[7]], 1, 4, 1),
         of("another run does not rise", &[&[7], &[5, 0]], 1, 4, 2),
         of("2 before 4", &[&[3, 3], &[7]], 2, 2, 2),
