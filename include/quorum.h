@@ -160,8 +160,8 @@ enum {
     /**
      * An answer is due and the answer buffer is full. The place of 5 to 7 is the
      * number of parts written, from quorum_query_many those of the question that
-     * was stopped; at 5 of quorum_query_alone all are. From quorum_lcov_run: a number
-     * is due and the row is full; place: the count written.
+     * was stopped; at 5 of quorum_query_alone that is all of them. From
+     * quorum_lcov_run: a number is due and the row is full; place: the count written.
      */
     QUORUM_ANSWERS_FULL = 5,
     /** A part is due and does not fit the certificate buffer. */
@@ -392,9 +392,10 @@ void quorum_query_many(const uint32_t *numbers, size_t numbers_len,
  * `answers`, rising: what a new test, lent as run 0, found alone. They are its bins
  * that are no answer of the question about runs 1 to ends_len - 1.
  *
- * `certificate` receives the certificate of that question. Its answers are what the
- * other runs hold often enough; no mask has bit 0, and run i is bit i.
- * quorum_check_chosen accepts it with a mask of all runs but run 0.
+ * `certificate` receives the certificate of that question. Its answers are the bins
+ * that at least `threshold` of the other runs hold; no mask has bit 0, and run i is
+ * bit i. Where it is whole, after an accepted call and after 5, quorum_check_chosen
+ * accepts it with a mask of all runs but run 0.
  *
  * `result` receives what it does from quorum_query: refusal and place, the answers,
  * parts and bytes written, the doubling and the halving probes made in the other

@@ -1,21 +1,16 @@
--- What a field at an offset reads as: its numbers in halves, the cases of `readBody` and `readField`, and that a field that is read lies within the
--- bytes. Assumes nothing.
+-- What a field at an offset reads as: its numbers in halves, and the cases of `readBody` and `readField`. Assumes nothing.
 use Prim.Native.Nat.{ℕ, suc, _+_, _*_, _^_, _≤_, _<_}
-use borrow.Author.Tests.{lt-ltb, le-ltb, le-leb, lt-leb, leb-true, eq-eqb, ne-eqb}
-use lib.Dec.{leb, eqb}
+use borrow.Author.Tests.{lt-ltb, le-ltb, le-leb, lt-leb, eq-eqb, ne-eqb}
 use lib.ListN.{length, getD, take, drop, length-drop}
 use lib.Seq.{drop-cons, drop-drop, take-add, length-take-le, getD-drop}
-use mathlib.Core.Bool.{true, false, _&&_}
 use mathlib.Core.List.{List}
 use mathlib.Core.Logic.{⊎-elim, _≢_}
-use mathlib.Core.Path.{_≡_, sym, ap, _∙_}
+use mathlib.Core.Path.{_≡_}
 use native.Mathlib.Nat.{add-zero}
 use native.Mathlib.Numerals.{add-one}
 use native.Mathlib.Omega.{arith}
-use Rattle.model.proofs.Tests.{both, lt-or-le, eq-or-ne, and-true}
-use Rattle.model.specs.Certificate.{Part, answer, gap, numberOf, unreadable, read, readBody, readField, sizeOf}
-use Rattle.field_read.specs.Reading.{partOf, readingOf, EndsFrom}
-use Rattle.field_read.specs.declared.Field.the-variants.{Read}
+use Rattle.model.proofs.Tests.{eq-or-ne}
+use Rattle.model.specs.Certificate.{answer, gap, numberOf, unreadable, read, readBody, readField}
 use Rattle.field_read.specs.declared.Part as fields
 use Rattle.field_write.proofs.Bytes.{number-append}
 

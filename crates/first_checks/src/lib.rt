@@ -8,7 +8,7 @@ ghost use lib.Count.{ones};
 ghost use lib.Dec.{eqb};
 ghost use lib.ListN.{length};
 ghost use Rattle.model.specs.Alone.{aloneChecks};
-ghost use Rattle.model.specs.Refusals.{_then_, refuseIf, refuseAt, fallsFrom, lastEnd, unrisenIn, misweighed, countCheck, weightsCheck, thresholdCheck, sumOfWeights, maskCheck, listChecks, firstChecks, weightedChecks, chosenChecks};
+ghost use Rattle.model.specs.Refusals.{_then_, refuseIf, refuseAt, fallsFrom, lastEnd, unrisenIn, misweighed, countCheck, weightsCheck, thresholdCheck, thresholdChecks, sumOfWeights, maskCheck, listChecks, firstChecks, weightedChecks, chosenChecks};
 ghost use Rattle.model.specs.Runs.{mostRuns};
 ghost use Rattle.rising.specs.Found.{foundPlace};
 ghost use Rattle.first_checks.specs.Checked.{checkOf};
@@ -231,9 +231,9 @@ pub fn list_checks(numbers: &[u32], ends: &[u32]) -> Checked
     Checked::Passed
 }
 
-// The first checks of a question or a checker over `most` of the runs.
+// The first checks of a call with a threshold, which is held against `most`.
 fn checks_over(most: usize, numbers: &[u32], ends: &[u32], threshold: u32) -> Checked
-    ensures { λ r. ⌜ checkOf r ≡ (countCheck (now (ends .entry)) then thresholdCheck most threshold threshold then listChecks (now (numbers .entry)) (now (ends .entry))) ⌝ }
+    ensures { λ r. ⌜ checkOf r ≡ thresholdChecks most (now (numbers .entry)) (now (ends .entry)) threshold ⌝ }
 {
     let t = arith::usize_of_u32(threshold);
     let met = first_of(count_check(ends), threshold_check(most, t, t));
@@ -250,7 +250,7 @@ pub fn first_checks(numbers: &[u32], ends: &[u32], threshold: u32) -> Checked
     checks_over(ends.len(), numbers, ends, threshold)
 }
 
-// Those over all runs but run 0.
+// Those of what run 0 found alone: the threshold is held against the number of the other runs.
 pub fn alone_checks(numbers: &[u32], ends: &[u32], threshold: u32) -> Checked
     ensures { λ r. ⌜ checkOf r ≡ aloneChecks (now (numbers .entry)) (now (ends .entry)) threshold ⌝ }
 {

@@ -3,8 +3,10 @@ use Prim.Native.Nat.{ℕ}
 use lib.ListN.{length, replicate, length-replicate}
 use mathlib.Core.List.{List}
 use mathlib.Core.Path.{_≡_, refl, sym, ap, _∙_}
+use Rattle.model.specs.Certificate.{answersOf}
+use Rattle.model.specs.Compared.{partsOf}
 use Rattle.model.specs.Demands.{Fits}
-use Rattle.model.specs.Refusals.{Check, passed, refusal, firstChecks, Outcome, accepted, refused, outcomeOf, cutWalk, answeredBy, query, checkedFirst, answeredWith, outcomeWith}
+use Rattle.model.specs.Refusals.{Check, passed, refusal, firstChecks, Outcome, accepted, refused, cutWalk, answeredBy, query, checkedFirst, answeredWith, outcomeWith}
 use Rattle.model.specs.Runs.{pastBin, runs}
 use Rattle.hits_limits.specs.Limits.{answerRoom, certificateRoom}
 use Rattle.hits_render.proofs.Printed.{accepted-prints}
@@ -15,11 +17,11 @@ use Rattle.hits_ask.specs.Ask.{shown, asked, textFor}
 
 outcome-same : (numbers ends : List ℕ) (t allowance : ℕ) (a b c d : List ℕ) → length a ≡ length c → length b ≡ length d
     → query numbers ends t allowance a b .outcome ≡ query numbers ends t allowance c d .outcome
-unfolding query answeredBy checkedFirst answeredWith outcomeOf outcomeWith
+unfolding query answeredBy checkedFirst answeredWith outcomeWith
 outcome-same numbers ends t allowance a b c d e f = go (firstChecks numbers ends t) refl
   where
     go : (k : Check) → firstChecks numbers ends t ≡ k → query numbers ends t allowance a b .outcome ≡ query numbers ends t allowance c d .outcome
-    go passed q = rw q (λ i. outcomeOf (cutWalk t (runs numbers ends) allowance (e i) (f i)))
+    go passed q = rw q (λ i. let w = cutWalk t (runs numbers ends) allowance (e i) (f i) in outcomeWith (length (answersOf (partsOf (w .events)))) w)
     go (refusal n p) q = rw q
 
 rendered-same : (numbers ends : List ℕ) (t allowance : ℕ) (a b c d : List ℕ) → Fits pastBin numbers → (o : Outcome)

@@ -4,7 +4,7 @@ use mathlib.Core.Bool.{true, false}
 use mathlib.Core.Path.{_≡_, refl}
 use Rattle.model.specs.Certificate.{firstOf, lastOf, answersOf, bytesOf, numberOf, field, encodePart, encode, readBody, readField}
 use Rattle.model.specs.Compared.{wholeWalk, partsOf, cost, doublingProbe, halvingProbe, doublingsOf, halvingsOf}
-use Rattle.model.specs.Refusals.{_then_, refuseIf, refuseAt, fallsFrom, lastEnd, unrisenIn, countCheck, thresholdCheck, listChecks, firstChecks, met, after, cut, cutWalk, over, outcomeOf, answeredBy, query, checkedFirst, answeredWith, outcomeWith}
+use Rattle.model.specs.Refusals.{_then_, refuseIf, refuseAt, fallsFrom, lastEnd, unrisenIn, countCheck, thresholdCheck, listChecks, firstChecks, met, after, cut, cutWalk, over, answeredBy, query, checkedFirst, answeredWith, outcomeWith}
 use Rattle.model.specs.Runs.{firstBin, lastBin, pastBin, from, rank, runsFrom, runs, unrisenAfter, unrisen, unrisenRun, total, one, weightOf, mask}
 use Rattle.model.specs.Walk.{headOf, head, leastHead, enoughHead, doubling, halving, seek, searchIn, searches, searched, movedOn, settle, round, walk}
 use Rattle.text_read.specs.Pieces.{onFirst, split}
@@ -26,7 +26,7 @@ pub listing-printed : (hits false listingInput ≡ listingText) × (hits false s
 unfolding listingInput listingText searchInput searchText refusedInput refusedText partInput partText bytes hits printed parsed textFor asked shown
     mostBytes inputRuns inputNumbers answerRoom certificateRoom onFirst split isDigit allDigits decimalValue value number before numbersOf pair twoWords headingOf runOf runBefore linesFrom limited row endsFrom resultOf parseLines parse
     firstOf lastOf answersOf bytesOf numberOf field encodePart encode readBody readField wholeWalk partsOf cost doublingProbe halvingProbe doublingsOf halvingsOf
-    _then_ refuseIf refuseAt fallsFrom lastEnd unrisenIn countCheck thresholdCheck listChecks firstChecks met after cut cutWalk over outcomeOf answeredBy checkedFirst answeredWith outcomeWith query
+    _then_ refuseIf refuseAt fallsFrom lastEnd unrisenIn countCheck thresholdCheck listChecks firstChecks met after cut cutWalk over answeredBy checkedFirst answeredWith outcomeWith query
     firstBin lastBin pastBin from rank runsFrom runs unrisenAfter unrisen unrisenRun total one weightOf mask
     headOf head leastHead enoughHead doubling halving seek searchIn searches searched movedOn settle round walk
     decimalIn decimal numbersAfter line partLine partLines doneLine refuseLine partsFrom partsHeld rendered

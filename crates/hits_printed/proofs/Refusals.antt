@@ -12,7 +12,7 @@ use mathlib.Core.Path.{_≡_, refl, sym, ap, _∙_, subst}
 use native.Mathlib.Omega.{arith}
 use Rattle.model.specs.Certificate.{Part, answer, gap}
 use Rattle.model.specs.Demands.{Fits}
-use Rattle.model.specs.Refusals.{Check, passed, refusal, _then_, refuseIf, refuseAt, fallsFrom, lastEnd, countCheck, thresholdCheck, listChecks, firstChecks, Outcome, accepted, refused, answeredBy, checkedFirst, query}
+use Rattle.model.specs.Refusals.{_then_, Check, passed, refusal, refuseIf, refuseAt, fallsFrom, lastEnd, countCheck, thresholdCheck, listChecks, firstChecks, Outcome, accepted, refused, answeredBy, checkedFirst, query}
 use Rattle.model.specs.Runs.{lastBin, pastBin, mostNumbers, runs}
 use Rattle.model.proofs.Enough.{Door, door-passed, door-then, door-if, door-at, room-enough}
 use Rattle.model.proofs.Tests.{lt-or-le, or-false}

@@ -10,7 +10,7 @@ use native.Mathlib.Nat.{le-trans, mul-le-mul, mul-le-mul-left, mul-le-mul-right}
 use native.Mathlib.Omega.{arith}
 use Rattle.model.specs.Compared.{wholeWalk, probesIn, digits, boundOf, boundIn}
 use Rattle.model.specs.Demands.{Fits, refusedBy}
-use Rattle.model.specs.Refusals.{Check, passed, firstChecks, weightedChecks, answeredWith, outcomeOf, answeredBy, query, queryWeighted}
+use Rattle.model.specs.Refusals.{Check, passed, firstChecks, weightedChecks, answeredWith, answeredBy, query, queryWeighted}
 use Rattle.model.specs.Runs.{Run, pastBin, mostNumbers, runs, weighted, total}
 use Rattle.model.proofs.Demands.{whole-bound, never-spent}
 use Rattle.model.proofs.Digits.{digits-mono, digits-least}
@@ -53,10 +53,10 @@ lists-bound numbers ends p =
 -- A question over runs that its first checks make fit, with an allowance of 2 × n × digits n for each run of n bins: refusal 7 never occurs, whatever the input.
 allowance-enough-by : (c : Check) (rs : List Run) (t allowance : ℕ) (answers certificate : List ℕ) → NotSpent c → (c ≡ passed → Fit rs t)
     → (c ≡ passed → total (λ r. boundIn (length (r .bins)) r) rs ≤ allowance) → refusedBy (answeredBy c rs t allowance answers certificate .outcome) ≢ 7
-unfolding answeredBy answeredWith outcomeOf
+unfolding answeredBy answeredWith
 allowance-enough-by c rs t allowance answers certificate d fits l =
     unspent-by c _ answers certificate d
-    (λ i. never-spent (fits i) (λ r. boundIn (length (r .bins)) r) (run-probes (fits i)) allowance (length answers) (length certificate) (l i))
+    (λ i. never-spent (fits i) (λ r. boundIn (length (r .bins)) r) (run-probes (fits i)) _ allowance (length answers) (length certificate) (l i))
 
 module _ (numbers ends : List ℕ) (t allowance : ℕ) (answers certificate : List ℕ) (fits : Fits pastBin numbers) where
   enough-by : (firstChecks numbers ends t ≡ passed → total (λ r. boundIn (length (r .bins)) r) (runs numbers ends) ≤ allowance)

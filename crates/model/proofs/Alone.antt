@@ -11,7 +11,7 @@ use mathlib.Core.Logic.{⊎-elim, _≢_}
 use mathlib.Core.Option.{none}
 use mathlib.Core.Path.{_≡_, refl, sym, ap, _∙_, subst}
 use native.Mathlib.Omega.{arith}
-use Rattle.model.specs.Alone.{newBins, otherRuns, otherMask, aloneChecks, without, aloneIn, unansweredWalk}
+use Rattle.model.specs.Alone.{newBins, otherRuns, otherMask, aloneChecks, without, aloneIn, walkWithoutAnswers}
 use Rattle.model.specs.AloneDemands.{AloneExact}
 use Rattle.model.specs.Certificate.{Part, maskOf, answersOf, NamesOnly, TruePart, gap-true, answer-true}
 use Rattle.model.specs.Compared.{wholeWalk, wholeCertificate}
@@ -128,11 +128,11 @@ new-rising numbers ends t h e = new-rise (runs numbers ends) (runs-rising number
 -- ---- the answers
 
 module _ (answers : List ℕ) where
-  without-held : (x : ℕ) (s : List ℕ) → holds x answers ≡ true → without answers (x ∷ s) ≡ without answers s
+  pub without-held : (x : ℕ) (s : List ℕ) → holds x answers ≡ true → without answers (x ∷ s) ≡ without answers s
   unfolding without
   without-held x s e = rw (e, without)
 
-  without-new : (x : ℕ) (s : List ℕ) → holds x answers ≡ false → without answers (x ∷ s) ≡ x ∷ without answers s
+  pub without-new : (x : ℕ) (s : List ℕ) → holds x answers ≡ false → without answers (x ∷ s) ≡ x ∷ without answers s
   unfolding without
   without-new x s e = rw (e, without)
 
@@ -235,6 +235,6 @@ others-clear numbers ends t g p m =
     omega arith
 
 -- A walk that has room for all its answers is not ended by 5.
-pub never-full : (t : ℕ) (rs : List Run) (allowance bytes : ℕ) → unansweredWalk t rs allowance bytes .refused ≢ 5
-unfolding unansweredWalk cutWalk wholeCertificate
+pub never-full : (t : ℕ) (rs : List Run) (allowance bytes : ℕ) → walkWithoutAnswers t rs allowance bytes .refused ≢ 5
+unfolding walkWithoutAnswers cutWalk wholeCertificate
 never-full t rs allowance bytes = cut-unfilled _ (wholeWalk t rs) (omega arith)

@@ -8,7 +8,7 @@ use mathlib.Core.List.{List}
 use mathlib.Core.Logic.{⊎-elim, _≢_}
 use mathlib.Core.Path.{_≡_, refl, sym, _∙_, subst}
 use native.Mathlib.Omega.{arith}
-use Rattle.model.specs.Alone.{otherRuns, otherMask, aloneChecks, aloneIn, unansweredWalk, foundAfter, fullAfter, queryAlone}
+use Rattle.model.specs.Alone.{otherRuns, otherMask, aloneChecks, aloneIn, walkWithoutAnswers, answersAfter, fullNumber, endedAfter, queryAlone}
 use Rattle.model.specs.AloneDemands.{AloneExact, walkRefusedBy, AnswersAlone, AloneCertified, AloneDemand2, AloneDemand3}
 use Rattle.model.specs.Certificate.{Part, answersOf, encode, TrueCertificate}
 use Rattle.model.specs.Compared.{wholeWalk, partsOf, wholeCertificate}
@@ -35,21 +35,21 @@ by-other o h = rw (ne-eqb (refusedBy o) 5 h, walkRefusedBy)
 
 module _ (found : List ℕ) (places : ℕ) where
   -- after a walk that reached its end
-  one-more : (es : List Event) → places < length found → fullAfter (record { events = es; refused = 0 }) found places .refused ≡ 5
-  unfolding fullAfter
-  one-more es q = rw (lt-ltb places (length found) q, fullAfter)
+  one-more : (es : List Event) → places < length found → endedAfter (record { events = es; refused = 0 }) found places .refused ≡ 5
+  unfolding endedAfter fullNumber
+  one-more es q = rw (lt-ltb places (length found) q, fullNumber)
 
   -- where all answers fit, the call is refused as its walk is
-  pub all-fit : (es : List Event) (n : ℕ) → length found ≤ places → fullAfter (record { events = es; refused = n }) found places .refused ≡ n
-  unfolding fullAfter
-  all-fit es zero q = rw (le-ltb places (length found) q, fullAfter)
+  pub all-fit : (es : List Event) (n : ℕ) → length found ≤ places → endedAfter (record { events = es; refused = n }) found places .refused ≡ n
+  unfolding endedAfter fullNumber
+  all-fit es zero q = rw (le-ltb places (length found) q, fullNumber)
   all-fit es (suc n) q = refl
 
   -- The answers that are written, given all of them, after a walk that 5 did not end.
   answers-alone : (rs : List Run) (t : ℕ) → AloneExact rs t found → (es : List Event) (n : ℕ) → n ≢ 5
-      → AnswersAlone rs t (fullAfter (record { events = es; refused = n }) found places .refused) places
-      (take places (foundAfter (record { events = es; refused = n }) found))
-  unfolding fullAfter foundAfter
+      → AnswersAlone rs t (endedAfter (record { events = es; refused = n }) found places .refused) places
+      (take places (answersAfter (record { events = es; refused = n }) found))
+  unfolding endedAfter answersAfter
   answers-alone rs t x es zero h =
       ⊎-elim
       (λ (q : places < length found).
@@ -61,8 +61,8 @@ module _ (found : List ℕ) (places : ℕ) where
   answers-alone rs t x es (suc n) h =
       record { exact = λ e. absurd (omega arith); full = λ e. absurd (h e); stopped = λ e d. take-nil places }
 
-  walked-by : (a : ℕ) (es : List Event) (n : ℕ) → n ≢ 5 → walkRefusedBy (outcomeWith a (fullAfter (record { events = es; refused = n }) found places)) ≡ n
-  unfolding fullAfter
+  walked-by : (a : ℕ) (es : List Event) (n : ℕ) → n ≢ 5 → walkRefusedBy (outcomeWith a (endedAfter (record { events = es; refused = n }) found places)) ≡ n
+  unfolding endedAfter
   walked-by a es zero h =
       ⊎-elim
       (λ (q : places < length found). by-five _ (outcome-refused a es _ ∙ one-more es q))
@@ -71,7 +71,7 @@ module _ (found : List ℕ) (places : ℕ) where
   walked-by a es (suc n) h = let z = outcome-refused a es (suc n) in by-other _ (λ e. h (sym z ∙ e)) ∙ z
 
   -- only a walk that 7 ended is refused as 7
-  pub spent-walked : (a : ℕ) (es : List Event) (n : ℕ) → n ≢ 5 → refusedBy (outcomeWith a (fullAfter (record { events = es; refused = n }) found places)) ≡ 7 → n ≡ 7
+  pub spent-walked : (a : ℕ) (es : List Event) (n : ℕ) → n ≢ 5 → refusedBy (outcomeWith a (endedAfter (record { events = es; refused = n }) found places)) ≡ 7 → n ≡ 7
   spent-walked a es n h e = sym (walked-by a es n h) ∙ (by-other _ (omega arith) ∙ e)
 
 -- ---- the call
@@ -93,21 +93,21 @@ module _ (numbers ends : List ℕ) (t allowance : ℕ) (answers certificate : Li
   found = aloneIn t (runs numbers ends)
 
   abbrev written : List ℕ
-  written = take (length answers) (foundAfter walked found)
+  written = take (length answers) (answersAfter walked found)
 
   abbrev ended : Ended
-  ended = fullAfter walked found (length answers)
+  ended = endedAfter walked found (length answers)
 
   given : Answered
   given = answeredWith written ended answers certificate
 
   given-passed : aloneChecks numbers ends t ≡ passed → queryAlone numbers ends t allowance answers certificate ≡ given
-  unfolding queryAlone unansweredWalk cutWalk checkedFirst given
+  unfolding queryAlone walkWithoutAnswers cutWalk checkedFirst given
   given-passed e = rw e
 
   -- 5 did not end the walk
   not-full : walked .refused ≢ 5
-  unfolding unansweredWalk cutWalk
+  unfolding walkWithoutAnswers cutWalk
   not-full = never-full t others allowance (length certificate)
 
   -- The certificate of a walk that reached its end is accepted by the checker that is told the other runs.
@@ -121,7 +121,7 @@ module _ (numbers ends : List ℕ) (t allowance : ℕ) (answers certificate : Li
   certified-alone : Fits pastBin numbers → aloneChecks numbers ends t ≡ passed
       → AloneCertified numbers ends t (refusedBy (given .outcome)) (walkRefusedBy (given .outcome)) (partsIn (given .outcome)) (length answers)
       (take (answersIn (given .outcome)) (given .answers)) (take (bytesIn (given .outcome)) (given .certificate))
-  unfolding given answeredWith fullAfter
+  unfolding given answeredWith endedAfter
   certified-alone h e =
       let g = alone-fit numbers ends t h e in
       let c = certified-walk others t room g in
@@ -144,7 +144,7 @@ module _ (numbers ends : List ℕ) (t allowance : ℕ) (answers certificate : Li
   bounded-alone : Fit others t → (ps : List Part) → TrueCertificate others t ps
       → Bounded others t allowance (walked .events) (refusedBy (given .outcome)) (partsIn (given .outcome)) (doublingsMade (given .outcome))
       (halvingsMade (given .outcome)) (take (bytesIn (given .outcome)) (given .certificate)) (length ps)
-  unfolding given answeredWith fullAfter
+  unfolding given answeredWith endedAfter
   bounded-alone g ps c =
       let b = bounded-walk others t room g ps c in
       rw (

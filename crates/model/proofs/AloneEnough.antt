@@ -7,7 +7,7 @@ use mathlib.Core.Logic.{_⊎_, _≢_}
 use mathlib.Core.Path.{_≡_, sym, subst}
 use native.Mathlib.Nat.{le-trans}
 use native.Mathlib.Omega.{arith}
-use Rattle.model.specs.Alone.{newBins, otherRuns, aloneChecks, aloneIn, unansweredWalk, fullAfter, queryAlone}
+use Rattle.model.specs.Alone.{newBins, otherRuns, aloneChecks, aloneIn, walkWithoutAnswers, endedAfter, queryAlone}
 use Rattle.model.specs.Compared.{wholeWalk, wholeCertificate, boundOf, boundIn}
 use Rattle.model.specs.Demands.{Fits, refusedBy}
 use Rattle.model.specs.Refusals.{passed, Ended, cutWalk, refused, answeredWith, checkedFirst}
@@ -40,20 +40,20 @@ new-few (r ∷ rs) = omega arith
 module _ {rs : List Run} {t : ℕ} (g : Fit rs t) (allowance bytes : ℕ) where
   -- With 34 × n + 19 bytes, where the runs have at most n numbers, it is ended by 7 or by nothing.
   walk-roomy : (n : ℕ) → total (λ r. length (r .bins)) rs ≤ n → 34 * n + 19 ≤ bytes
-      → (unansweredWalk t rs allowance bytes .refused ≡ 0) ⊎ (unansweredWalk t rs allowance bytes .refused ≡ 7)
-  unfolding unansweredWalk cutWalk wholeCertificate
+      → (walkWithoutAnswers t rs allowance bytes .refused ≡ 0) ⊎ (walkWithoutAnswers t rs allowance bytes .refused ≡ 7)
+  unfolding walkWithoutAnswers cutWalk wholeCertificate
   walk-roomy n l b = walk-room _ (wholeWalk t rs) (omega arith) (le-trans (walk-small g n l .1) b)
 
   -- With 2 × n × digits n probes for each run of n bins it is not ended by 7.
-  walk-unspent : total (λ r. boundIn (length (r .bins)) r) rs ≤ allowance → unansweredWalk t rs allowance bytes .refused ≢ 7
-  unfolding unansweredWalk cutWalk
+  walk-unspent : total (λ r. boundIn (length (r .bins)) r) rs ≤ allowance → walkWithoutAnswers t rs allowance bytes .refused ≢ 7
+  unfolding walkWithoutAnswers cutWalk
   walk-unspent = cut-unspent rs t _ g (λ r. boundIn (length (r .bins)) r) (run-probes g)
 
 -- ---- the call
 
 module _ (numbers ends : List ℕ) (t allowance : ℕ) (answers certificate : List ℕ) where
   abbrev walked : Ended
-  walked = unansweredWalk t (otherRuns (runs numbers ends)) allowance (length certificate)
+  walked = walkWithoutAnswers t (otherRuns (runs numbers ends)) allowance (length certificate)
 
   -- It passes its first checks or is refused by 1 to 4.
   pub alone-passed-or-refused : (aloneChecks numbers ends t ≡ passed) ⊎ (AtDoor (refusedBy (queryAlone numbers ends t allowance answers certificate .outcome)))
@@ -66,7 +66,7 @@ module _ (numbers ends : List ℕ) (t allowance : ℕ) (answers certificate : Li
     pub alone-room-enough : length (newBins (runs numbers ends)) ≤ length answers
         → 34 * total (λ r. length (r .bins)) (otherRuns (runs numbers ends)) + 19 ≤ length certificate → aloneChecks numbers ends t ≡ passed → (n p a b d h : ℕ)
         → queryAlone numbers ends t allowance answers certificate .outcome ≡ refused n p a b d h → n ≡ 7
-    unfolding queryAlone checkedFirst answeredWith fullAfter
+    unfolding queryAlone checkedFirst answeredWith endedAfter
     alone-room-enough places bytes e n p a b d h o =
         let w = walk-roomy (alone-fit numbers ends t fits e) allowance _ (total (λ r. length (r .bins)) (otherRuns (runs numbers ends))) (omega arith) bytes in
         let f = all-fit (aloneIn t (runs numbers ends)) (length answers) (walked .events) (walked .refused) (le-trans (alone-few t (runs numbers ends)) places) in

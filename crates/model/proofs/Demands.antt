@@ -11,7 +11,7 @@ use native.Mathlib.Omega.{arith}
 use Rattle.model.specs.Certificate.{Part, answersOf, encode, TrueCertificate}
 use Rattle.model.specs.Compared.{wholeWalk, partsOf, wholeCertificate, doublingProbe, halvingProbe, probe, doublingsOf, halvingsOf, probesOf, inRun, doublingsIn, halvingsIn, probesIn, digits, boundOf, boundIn, bound}
 use Rattle.model.specs.Demands.{Fits, answersIn, partsIn, bytesIn, doublingsMade, halvingsMade, refusedBy, Exact, Certified, Demand2, Bounded, Demand3}
-use Rattle.model.specs.Refusals.{Check, passed, firstChecks, weightedChecks, Room, Ended, cut, cutWalk, over, Answered, outcomeWith, answeredWith, checkedFirst, outcomeOf, answeredBy, query, queryWeighted}
+use Rattle.model.specs.Refusals.{Check, passed, firstChecks, weightedChecks, Room, Ended, cut, cutWalk, over, Answered, outcomeWith, answeredWith, checkedFirst, answeredBy, query, queryWeighted}
 use Rattle.model.specs.Runs.{Run, firstBin, pastBin, runs, weighted, total}
 use Rattle.model.specs.Walk.{Event, walk}
 use Rattle.model.proofs.Bounds.{walk-probes, Owned, owned, sum-owned}
@@ -171,11 +171,11 @@ module _ (rs : List Run) (t : ℕ) (room : Room) where
 -- ---- the question
 
 pub never-spent : {rs : List Run} {t : ℕ} → Fit rs t → (b : Run → ℕ) → ((r : Run) → List·Memᴰ r rs → probesIn (r .label) (wholeWalk t rs) ≤ b r)
-    → (allowance answers bytes : ℕ) → total b rs ≤ allowance → refusedBy (outcomeOf (cutWalk t rs allowance answers bytes)) ≢ 7
-unfolding cutWalk outcomeOf
-never-spent {rs} {t} g b h allowance answers bytes l e =
+    → (a allowance answers bytes : ℕ) → total b rs ≤ allowance → refusedBy (outcomeWith a (cutWalk t rs allowance answers bytes)) ≢ 7
+unfolding cutWalk
+never-spent {rs} {t} g b h a allowance answers bytes l e =
     let room : Room = record { probes = allowance; answers = answers; bytes = bytes } in
-    cut-unspent rs t room g b h l (sym (outcome-refused _ _ (cut room (wholeWalk t rs) .refused)) ∙ e)
+    cut-unspent rs t room g b h l (sym (outcome-refused a _ (cut room (wholeWalk t rs) .refused)) ∙ e)
 
 -- what stands at the front of the buffers of a call that wrote these answers
 module _ (found : List ℕ) (e : Ended) (answers certificate : List ℕ) where

@@ -3,7 +3,7 @@
 -- and 6 never occur. Assumes nothing.
 use Prim.Native.Nat.{ℕ, zero, suc, _+_, _-_, _*_, _≤_, _<_}
 use borrow.Author.Tests.{lt-ltb, le-ltb, lt-leb, eq-eqb, ne-eqb, eqb-true}
-use lib.Dec.{ltb, leb, eqb}
+use lib.Dec.{leb, eqb}
 use lib.ListN.{length, drop, length-take}
 use mathlib.Core.Bool.{Bool, true, false}
 use mathlib.Core.List.{List, [], _∷_, List·Memᴰ}
@@ -15,7 +15,7 @@ use native.Mathlib.Omega.{arith}
 use Rattle.model.specs.Certificate.{Part, answer, gap, answersOf, encode, sizeOf}
 use Rattle.model.specs.Compared.{wholeWalk, partsOf}
 use Rattle.model.specs.Demands.{Fits, refusedBy}
-use Rattle.model.specs.Refusals.{Check, passed, refusal, _then_, refuseIf, refuseAt, fallsFrom, lastEnd, countCheck, weightsCheck, thresholdCheck, listChecks, firstChecks, weightedChecks, Room, met, after, cut, cutWalk, Outcome, refused, Answered, outcomeWith, answeredWith, checkedFirst, answeredBy, query, queryWeighted}
+use Rattle.model.specs.Refusals.{Check, passed, refusal, _then_, refuseIf, refuseAt, fallsFrom, lastEnd, countCheck, weightsCheck, thresholdCheck, thresholdChecks, listChecks, firstChecks, weightedChecks, Room, met, after, cut, cutWalk, Outcome, refused, Answered, outcomeWith, answeredWith, checkedFirst, answeredBy, query, queryWeighted}
 use Rattle.model.specs.Runs.{Run, firstBin, pastBin, slice, from, runsFrom, runs, weightedRun, weighted, total, one}
 use Rattle.model.specs.Walk.{Event, sought, doubled, halved, wrote, headOf, head}
 use Rattle.model.proofs.Count.{total-le, total-less, total-map, weight-some, weight-witness}
@@ -25,7 +25,7 @@ use Rattle.model.proofs.Events.{parts-round}
 use Rattle.model.proofs.FirstChecks.{Listed, first-passed, weighted-passed, fit, weighted-fit, not-fallen}
 use Rattle.model.specs.Rows.{equal}
 use Rattle.model.proofs.From.{from-pass, from-stop, from-nil, from-from, from-length, from-fewer, head-nil, head-cons}
-use Rattle.model.proofs.Heads.{atMost, below}
+use Rattle.model.proofs.Heads.{atMost}
 use Rattle.model.proofs.Tests.{lt-or-le, eq-or-ne, one-most}
 use Rattle.model.proofs.Truth.{Fit, weight-at}
 use Rattle.model.proofs.Walking.{fromRun, at, head-from, gapAt, answerAt, Walked, over, stop, pass, hit, hit-here}
@@ -214,10 +214,6 @@ ended-roomy x es (suc r) n p a b d h k o =
 
 pub record Door (by : ℕ → Type 0) (c : Check) : Type 0 where
   pub numbers : (n p : ℕ) → c ≡ refusal n p → by n
-
--- those of a question with a threshold, which is held against a number of runs
-abbrev pub thresholdChecks : ℕ → List ℕ → List ℕ → ℕ → Check
-thresholdChecks most numbers ends t = countCheck ends then thresholdCheck most t t then listChecks numbers ends
 
 module _ (by : ℕ → Type 0) where
   pub door-passed : (c : Check) → c ≡ passed → Door by c

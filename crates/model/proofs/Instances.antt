@@ -2,7 +2,7 @@
 use lib.Count.{ones}
 use mathlib.Core.List.{_∷_, _++_}
 use mathlib.Core.Path.{refl}
-use Rattle.model.specs.Alone.{newBins, otherRuns, aloneChecks, without, aloneIn, unansweredWalk, foundAfter, fullAfter, queryAlone}
+use Rattle.model.specs.Alone.{newBins, otherRuns, aloneChecks, without, aloneIn, walkWithoutAnswers, answersAfter, fullNumber, endedAfter, queryAlone}
 use Rattle.model.specs.Between.{within, between}
 use Rattle.model.specs.Certificate.{firstOf, lastOf, answersOf, bytesOf, numberOf, field, encodePart, encode, sizeOf, readBody, readField}
 use Rattle.model.specs.Compared.{wholeWalk, partsOf, wholeCertificate, cost, doublingProbe, halvingProbe, doublingsOf, halvingsOf}
@@ -80,5 +80,5 @@ unfolding askedAlone expectedAlone limited instance listingNumbers aloneInstance
     _then_ refuseIf refuseAt fallsFrom lastEnd unrisenIn countCheck thresholdCheck listChecks met after cut cutWalk over outcomeWith answeredWith checkedFirst
     firstBin lastBin pastBin from rank runsFrom runs unrisenAfter unrisen unrisenRun holds total one weightOf mask
     headOf head leastHead enoughHead doubling halving seek searchIn searches searched movedOn settle round walk
-    newBins otherRuns aloneChecks without aloneIn unansweredWalk foundAfter fullAfter queryAlone
+    newBins otherRuns aloneChecks without aloneIn walkWithoutAnswers answersAfter fullNumber endedAfter queryAlone
 alone-instances = record { same = refl }

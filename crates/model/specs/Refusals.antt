@@ -80,9 +80,13 @@ listChecks numbers ends =
 unfoldable pub maskCheck : ℕ → ℕ → ℕ → Check
 maskCheck k m place = refuseIf (eqb m 0 || not (eqb (m / 2 ^ k) 0)) 13 place
 
--- The first checks of a question over all runs, in the order of the table.
+-- The first checks of a call with a threshold, in the order of the table. It is held against the number of the runs asked about.
+abbrev pub thresholdChecks : ℕ → List ℕ → List ℕ → ℕ → Check
+thresholdChecks most numbers ends t = countCheck ends then thresholdCheck most t t then listChecks numbers ends
+
+-- Those of a question over all runs.
 unfoldable pub firstChecks : List ℕ → List ℕ → ℕ → Check
-firstChecks numbers ends t = countCheck ends then thresholdCheck (length ends) t t then listChecks numbers ends
+firstChecks numbers ends t = thresholdChecks (length ends) numbers ends t
 
 -- Those of a question over all runs with weights: 17 right after 1, and the wanted weight is held against the sum of the weights.
 unfoldable pub weightedChecks : List ℕ → List ℕ → List ℕ → ℕ → Check
@@ -173,11 +177,7 @@ unfoldable pub checkedFirst : Check → Answered → List ℕ → List ℕ → A
 checkedFirst passed a answers certificate = a
 checkedFirst (refusal n p) a answers certificate = record { outcome = refused n p 0 0 0 0; answers = answers; certificate = certificate }
 
--- A question's answers are those of the parts that its walk writes.
-unfoldable pub outcomeOf : Ended → Outcome
-outcomeOf e = outcomeWith (length (answersOf (partsOf (e .events)))) e
-
--- what a question over these runs comes to, with its first checks
+-- What a question over these runs comes to, with its first checks: its answers are those of the parts that its walk writes.
 unfoldable pub answeredBy : Check → List Run → ℕ → ℕ → List ℕ → List ℕ → Answered
 answeredBy c rs t allowance answers certificate =
     let e = cutWalk t rs allowance (length answers) (length certificate) in

@@ -7,7 +7,7 @@ use mathlib.Core.Path.{_≡_, sym, ap, _∙_, subst}
 use native.Mathlib.Omega.{arith}
 use Rattle.model.specs.Compared.{wholeWalk}
 use Rattle.model.specs.Demands.{Demand2, Demand3}
-use Rattle.model.specs.Refusals.{Check, Outcome, refused, passed, refusal, firstChecks, weightedChecks, checkedFirst, answeredBy}
+use Rattle.model.specs.Refusals.{Check, Outcome, Answered, refused, passed, refusal, firstChecks, weightedChecks, checkedFirst, answeredBy}
 use Rattle.model.specs.Runs.{Run, runs, weighted, weightOfAll, chosen}
 use Rattle.model.proofs.Demands.{demand2-by, demand3-by}
 use Rattle.model.proofs.FirstChecks.{then-second, first-passed, weighted-passed, weighted-weighs, all-length, every-run}
@@ -96,11 +96,18 @@ module _ (numbers ends ws : List ℕ) (m : ℕ) (f : m ≡ 2 ^ length ends - 1) 
 
 -- ---- what is returned
 
-module _ (c : Check) (rs : List Run) (t allowance : ℕ) (A B : List ℕ) where
-  pub refused-first : (n p : ℕ) → c ≡ refusal n p → (o : Outcome) → o ≡ refused n p 0 0 0 0 → Returns (answeredBy c rs t allowance A B) o A B
-  unfolding answeredBy checkedFirst
-  refused-first n p e o f = record { outcome-is = f ∙ rw e; answers-are = rw e; certificate-is = rw e }
+-- what holds of an outcome and buffers holds of those that are returned
+pub returned : (P : Outcome → List ℕ → List ℕ → Type 0) (a : Answered) {o : Outcome} {A′ B′ : List ℕ} → Returns a o A′ B′
+    → P (a .outcome) (a .answers) (a .certificate) → P o A′ B′
+returned P a {o} {A′} {B′} h p =
+    subst (λ x. P o A′ x) (sym (h .certificate-is)) (subst (λ x. P o x (a .certificate)) (sym (h .answers-are)) (subst (λ x. P x (a .answers) (a .certificate)) (sym (h .outcome-is)) p))
 
+-- a refusal of the first checks, whatever the call comes to after them
+pub refused-first : (c : Check) (a : Answered) (A B : List ℕ) (n p : ℕ) → c ≡ refusal n p → (o : Outcome) → o ≡ refused n p 0 0 0 0 → Returns (checkedFirst c a A B) o A B
+unfolding checkedFirst
+refused-first c a A B n p e o f = record { outcome-is = f ∙ rw e; answers-are = rw e; certificate-is = rw e }
+
+module _ (c : Check) (rs : List Run) (t allowance : ℕ) (A B : List ℕ) where
   pub answered-first : c ≡ passed → (A′ B′ : List ℕ) (o : Outcome) → Returns (answeredBy passed rs t allowance A B) o A′ B′ → Returns (answeredBy c rs t allowance A B) o A′ B′
   answered-first e A′ B′ o h = subst (λ x. Returns (answeredBy x rs t allowance A B) o A′ B′) (sym e) h
 
@@ -111,10 +118,7 @@ module _ (c : Check) (rs : List Run) (t allowance : ℕ) (A B : List ℕ) where
       let q = answeredBy c rs t allowance A B in (
         h,
         (
-          subst (λ x. Demand2 c rs t o A′ x) (sym (h .certificate-is))
-              (subst (λ x. Demand2 c rs t o x (q .certificate)) (sym (h .answers-are))
-              (subst (λ x. Demand2 c rs t x (q .answers) (q .certificate)) (sym (h .outcome-is)) (demand2-by rs t allowance A B c g))),
-          subst (λ x. Demand3 c rs t allowance (length A) B o x) (sym (h .certificate-is))
-              (subst (λ x. Demand3 c rs t allowance (length A) B x (q .certificate)) (sym (h .outcome-is)) (demand3-by rs t allowance A B c g)),
+          returned (Demand2 c rs t) q h (demand2-by rs t allowance A B c g),
+          returned (λ x A₁ B₁. Demand3 c rs t allowance (length A) B x B₁) q h (demand3-by rs t allowance A B c g),
         ),
       )

@@ -10,7 +10,7 @@ abbrev pub outcomeIs : Outcome → model.Outcome
 outcomeIs (Accepted answers parts bytes doublings halvings) = model.accepted answers parts bytes doublings halvings
 outcomeIs (Refused number place answers bytes doublings halvings) = model.refused number place answers bytes doublings halvings
 
--- the outcome and the contents of both buffers are those of the question
+-- the outcome and the contents of both buffers are these
 pub record Returns (answered : model.Answered) (outcome : model.Outcome) (answers′ certificate′ : List ℕ) : Type 0 where
   pub outcome-is : outcome ≡ answered .outcome
   pub answers-are : answers′ ≡ answered .answers

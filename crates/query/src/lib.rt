@@ -32,7 +32,7 @@ pub enum Outcome {
     },
 }
 
-// What is returned where a refusal of this number ended a call, 0 where none did, its walk stood there, and so many answers are written.
+// What a call returns that a refusal of this number ended, 0 where none did: so many answers are written, and `w` is the last state of its walk.
 pub fn outcome_of(number: u8, answers: usize, w: State, allowance: u32) -> Outcome
     requires { ⌜ undoubled (w .tally) ≤ allowance ⌝ }
     ensures { λ r. ⌜ outcomeIs r ≡ outcomeAt number (countsWith allowance answers (w .parts) (w .bytes) (w .tally)) ⌝ }

@@ -1,4 +1,4 @@
--- The walk over the other runs, the answers after it, and what the call returns. Assumes nothing.
+-- The mask of the other runs, the walk over them, and the answers after it. Assumes nothing.
 use Prim.Native.Nat.{ℕ, zero, suc, _+_, _-_, _*_, _^_, _≤_, _<_}
 use borrow.Author.Tests.{lt-ltb, le-ltb}
 use lib.ListN.{length, getD, take, drop, drop-of-length-le}
@@ -9,20 +9,20 @@ use mathlib.Core.Path.{_≡_, refl, sym, ap, _∙_, subst}
 use native.Mathlib.Omega.{arith}
 use Rattle.field_read.specs.Held.{partsHeld}
 use Rattle.field_write.specs.Stored.{placed}
-use Rattle.model.specs.Alone.{newBins, otherRuns, otherMask, aloneChecks, unansweredWalk}
+use Rattle.model.specs.Alone.{newBins, otherRuns, otherMask, aloneChecks, walkWithoutAnswers, fullNumber}
 use Rattle.model.specs.Certificate.{answersOf, encode}
 use Rattle.model.specs.Compared.{wholeWalk, partsOf, wholeCertificate}
-use Rattle.model.specs.Refusals.{passed, listChecks, Room, cut, cutWalk, Answered, Outcome, over}
+use Rattle.model.specs.Refusals.{passed, listChecks, cut, cutWalk, Answered, Outcome, over}
 use Rattle.model.specs.Runs.{Run, runs, bit, weightOfAll}
 use Rattle.model.proofs.Alone.{others-chosen, other-ones, other-only, alone-passed}
 use Rattle.model.proofs.FirstChecks.{then-second}
 use Rattle.model.proofs.Masks.{bit-of}
-use Rattle.query_alone.specs.Others.{RunsPlaced, Walked, foundIn, fullNumber, FoundAfter}
+use Rattle.query_alone.specs.Others.{RunsPlaced, Walked, foundIn, FoundAfter}
 use Rattle.query_difference.specs.Gaps.{inGaps, Keeps}
 use Rattle.query_difference.specs.declared.Kept.{Kept}
 use Rattle.query_difference.specs.declared.Kept.the-variants.{All, Full}
 use Rattle.walk_progress.specs.Progress.{Counts, noCounts, countsWith, countsMore, outcomeAt, roomWith, probesSo, ended, onward}
-use Rattle.walk_progress.proofs.Progress.{counts-same, outcome-same, onward-silent, over-placed}
+use Rattle.walk_progress.proofs.Progress.{counts-same, outcome-same, onward-silent, over-placed, room-start}
 use Rattle.walk_rounds.specs.declared.End.{End}
 use Rattle.walk_state.specs.State.{runsAt}
 use Rattle.walk_tally.specs.Tally.{leftIn, halvedIn, undoubled}
@@ -71,21 +71,18 @@ module _ (numbers ends : List ℕ) (t m : ℕ) (e : aloneChecks numbers ends t �
       omega arith
 
   pub walked-so : (allowance tally : ℕ) (B A′ B′ : List ℕ) (r : End) → (leftIn tally ≡ allowance) × (halvedIn tally ≡ 0)
-      → ComesTo numbers ends [] m t 1 0 tally [] B A′ B′ r → Walked (unansweredWalk t (otherRuns (runs numbers ends)) allowance (length B)) allowance B B′ r
-  unfolding unansweredWalk cutWalk wholeCertificate countsFrom endsWith ended countsOf roomWith probesSo countsMore noCounts
+      → ComesTo numbers ends [] m t 1 0 tally [] B A′ B′ r → Walked (walkWithoutAnswers t (otherRuns (runs numbers ends)) allowance (length B)) allowance B B′ r
+  unfolding walkWithoutAnswers cutWalk wholeCertificate countsFrom endsWith ended countsOf roomWith probesSo countsMore noCounts
   walked-so allowance tally B A′ B′ r l h =
       let W = wholeWalk t (otherRuns (runs numbers ends)) in
       let z : allowance - undoubled tally ≡ 0 = omega (arith, l .0, l .1) in
       let c : Counts = record { answers = 1; parts = 0; bytes = 0; doublings = 0; halvings = 0 } in
-      let w = unansweredWalk t (otherRuns (runs numbers ends)) allowance (length B) in
+      let w = walkWithoutAnswers t (otherRuns (runs numbers ends)) allowance (length B) in
       let first : countsFrom allowance 1 0 tally ≡ c = counts-same refl refl refl z (l .1) in
-      let p : allowance - (0 + 0) ≡ allowance = omega arith in
-      let b : length B - 0 ≡ length B = omega arith in
-      let room : _≡_ {A = Room} (roomWith allowance c (length (answersOf (partsOf W))) B) (record { probes = allowance; answers = length (answersOf (partsOf W)); bytes = length B }) =
-      λ i. record { probes = p i; answers = length (answersOf (partsOf W)); bytes = b i } in
       let so : onward allowance c [] B W ≡ ended (w .refused) (countsMore c 0 (w .events)) [] (placed B 0 (encode (partsOf (w .events)))) =
       onward-silent allowance c [] B W (omega arith)
-      ∙ ap (λ x. ended (cut x W .refused) (countsMore c 0 (cut x W .events)) [] (placed B 0 (encode (partsOf (cut x W .events))))) room in
+      ∙ ap (λ x. ended (cut x W .refused) (countsMore c 0 (cut x W .events)) [] (placed B 0 (encode (partsOf (cut x W .events)))))
+      (sym (room-start allowance (length (answersOf (partsOf W))) B)) in
       let d = sym so ∙ ((λ i. onward allowance (sym first i) [] B (wholeWalk t (sym others-asked i))) ∙ h .as-asked allowance (omega (arith, l .0, l .1))) in
       let o = outcome-same (w .refused) (r .number) _ (countsOf allowance (r .at)) (ap (λ (x : Answered). x .outcome) d) in
       let g = o .1 in

@@ -1,26 +1,27 @@
--- What the call returns, from its first checks, from a walk that a refusal ended, or from the answers after it. Assumes nothing.
+-- What the call returns, from a walk that a refusal ended or from the answers after it, and that the demands hold of it. Assumes nothing.
 use Prim.Native.Nat.{ℕ, zero, suc, _≤_}
 use lib.ListN.{length, take, drop, length-append}
 use lib.Seq.{take-nil, take-append-seam}
-use mathlib.Core.List.{List, [], _++_}
+use mathlib.Core.List.{List}
 use mathlib.Core.Logic.{_≢_}
 use mathlib.Core.Path.{_≡_, refl, sym, ap, _∙_, subst}
 use native.Mathlib.Omega.{arith}
 use Rattle.field_read.proofs.Held.{held-encode}
 use Rattle.field_read.specs.Held.{partsHeld}
-use Rattle.model.specs.Alone.{newBins, otherRuns, otherMask, aloneChecks, aloneIn, unansweredWalk, foundAfter, fullAfter, queryAlone}
+use Rattle.model.specs.Alone.{newBins, otherRuns, otherMask, aloneChecks, aloneIn, walkWithoutAnswers, answersAfter, fullNumber, endedAfter, queryAlone}
 use Rattle.model.specs.AloneDemands.{AloneDemand2, AloneDemand3}
 use Rattle.model.specs.Certificate.{encode}
 use Rattle.model.specs.Compared.{partsOf, wholeCertificate}
 use Rattle.model.specs.Demands.{Fits}
-use Rattle.model.specs.Refusals.{Check, passed, refusal, Ended, cutWalk, Outcome, refused, Answered, answeredWith, checkedFirst, over, outcomeWith}
-use Rattle.model.specs.Runs.{Run, pastBin, runs}
+use Rattle.model.specs.Refusals.{passed, refusal, Ended, cutWalk, Outcome, refused, Answered, answeredWith, checkedFirst, over, outcomeWith}
+use Rattle.model.specs.Runs.{pastBin, runs}
 use Rattle.model.proofs.Alone.{others-chosen, alone-passed, alone-fit, new-rising}
 use Rattle.model.proofs.AloneDemands.{alone-demand2, alone-demand3}
 use Rattle.model.proofs.Checking.{Narrow, chosen-narrow}
 use Rattle.model.proofs.Demands.{whole-true, all-parts}
+use Rattle.query.proofs.Questions.{returned}
 use Rattle.query.specs.Outcomes.{Returns}
-use Rattle.query_alone.specs.Others.{Walked, foundIn, fullNumber, FoundAfter}
+use Rattle.query_alone.specs.Others.{Walked, foundIn, FoundAfter}
 use Rattle.query_difference.specs.Gaps.{inGaps}
 use Rattle.query_difference.proofs.Difference.{gaps-without}
 use Rattle.walk_progress.specs.Progress.{Counts, countsWith, outcomeAt}
@@ -29,21 +30,21 @@ use Rattle.walk_rounds.specs.declared.End.{End}
 
 -- a walk that a refusal ended leaves no answers, and one that reached its end leaves those that fit
 stopped-alone : (n : ℕ) (e : Ended) (found A B : List ℕ) → e .refused ≡ suc n
-    → answeredWith (take (length A) (foundAfter e found)) (fullAfter e found (length A)) A B
+    → answeredWith (take (length A) (answersAfter e found)) (endedAfter e found (length A)) A B
     ≡ record { outcome = outcomeWith 0 (record { events = e .events; refused = suc n }); answers = A; certificate = over (encode (partsOf (e .events))) B }
-unfolding answeredWith foundAfter fullAfter over
-stopped-alone n e found A B h = rw (h, foundAfter, fullAfter, take-nil {A = ℕ} (length A)) refl
+unfolding answeredWith answersAfter endedAfter over
+stopped-alone n e found A B h = rw (h, answersAfter, endedAfter, take-nil {A = ℕ} (length A)) refl
 
 ended-alone : (e : Ended) (found A B : List ℕ) → e .refused ≡ 0
-    → answeredWith (take (length A) (foundAfter e found)) (fullAfter e found (length A)) A B
+    → answeredWith (take (length A) (answersAfter e found)) (endedAfter e found (length A)) A B
     ≡ answeredWith (take (length A) found) (record { events = e .events; refused = fullNumber (length A) found }) A B
-unfolding foundAfter fullAfter fullNumber
-ended-alone e found A B h = rw (h, foundAfter, fullAfter) refl
+unfolding answersAfter endedAfter fullNumber
+ended-alone e found A B h = rw (h, answersAfter, endedAfter) refl
 
 module _ (numbers ends : List ℕ) (t allowance : ℕ) (A B B′ : List ℕ) (r : End) (passes : aloneChecks numbers ends t ≡ passed)
-    (walked : Walked (unansweredWalk t (otherRuns (runs numbers ends)) allowance (length B)) allowance B B′ r) where
+    (walked : Walked (walkWithoutAnswers t (otherRuns (runs numbers ends)) allowance (length B)) allowance B B′ r) where
   abbrev e : Ended
-  e = unansweredWalk t (otherRuns (runs numbers ends)) allowance (length B)
+  e = walkWithoutAnswers t (otherRuns (runs numbers ends)) allowance (length B)
 
   bytes-are : r .at .bytes ≡ length (encode (partsOf (e .events)))
   unfolding Rattle.walk_progress.specs.Progress.countsMore Rattle.walk_progress.specs.Progress.noCounts
@@ -61,7 +62,7 @@ module _ (numbers ends : List ℕ) (t allowance : ℕ) (A B B′ : List ℕ) (r 
   outcome-now n a = ap (outcomeAt n) (walked .counts a) ∙ sym (outcome-start a (e .events) n)
 
   passed-first : queryAlone numbers ends t allowance A B
-      ≡ answeredWith (take (length A) (foundAfter e (aloneIn t (runs numbers ends)))) (fullAfter e (aloneIn t (runs numbers ends)) (length A)) A B
+      ≡ answeredWith (take (length A) (answersAfter e (aloneIn t (runs numbers ends)))) (endedAfter e (aloneIn t (runs numbers ends)) (length A)) A B
   unfolding queryAlone checkedFirst
   passed-first = rw passes refl
 
@@ -81,7 +82,7 @@ module _ (numbers ends : List ℕ) (t allowance : ℕ) (A B B′ : List ℕ) (r 
 
   -- what lies in the gaps of the bytes written is what the new test found alone
   found-is : Fits pastBin numbers → r .number ≡ 0 → foundIn (newBins (runs numbers ends)) B′ (r .at .bytes) ≡ aloneIn t (runs numbers ends)
-  unfolding foundIn over aloneIn unansweredWalk cutWalk
+  unfolding foundIn over aloneIn walkWithoutAnswers cutWalk
   found-is f z =
       let g = alone-fit numbers ends t f passes in
       let whole = wholeCertificate t (otherRuns (runs numbers ends)) in
@@ -111,22 +112,15 @@ module _ (numbers ends : List ℕ) (t allowance : ℕ) (A B B′ : List ℕ) (r 
 
 -- ---- the call
 
-module _ (numbers ends : List ℕ) (t allowance : ℕ) (A B : List ℕ) where
-  pub refused-first : (n p : ℕ) → aloneChecks numbers ends t ≡ refusal n p → (o : Outcome) → o ≡ refused n p 0 0 0 0 → Returns (queryAlone numbers ends t allowance A B) o A B
-  unfolding queryAlone checkedFirst
-  refused-first n p h o f = record { outcome-is = f ∙ rw h refl; answers-are = rw h refl; certificate-is = rw h refl }
-
-  -- demands 2 and 3 hold of what is returned
-  pub demanded : Fits pastBin numbers → (A′ B′ : List ℕ) (o : Outcome) → Returns (queryAlone numbers ends t allowance A B) o A′ B′
-      → Returns (queryAlone numbers ends t allowance A B) o A′ B′ × (AloneDemand2 numbers ends t (length A) o A′ B′ × AloneDemand3 numbers ends t allowance B o B′)
-  demanded f A′ B′ o h =
-      let q = queryAlone numbers ends t allowance A B in (
-        h,
-        (
-          subst (λ x. AloneDemand2 numbers ends t (length A) o A′ x) (sym (h .certificate-is))
-              (subst (λ x. AloneDemand2 numbers ends t (length A) o x (q .certificate)) (sym (h .answers-are))
-              (subst (λ x. AloneDemand2 numbers ends t (length A) x (q .answers) (q .certificate)) (sym (h .outcome-is)) (alone-demand2 numbers ends t allowance A B f))),
-          subst (λ x. AloneDemand3 numbers ends t allowance B o x) (sym (h .certificate-is))
-              (subst (λ x. AloneDemand3 numbers ends t allowance B x (q .certificate)) (sym (h .outcome-is)) (alone-demand3 numbers ends t allowance A B f)),
-        ),
-      )
+-- demands 2 and 3 hold of what is returned
+pub demanded : (numbers ends : List ℕ) (t allowance : ℕ) (A B : List ℕ) → Fits pastBin numbers → (A′ B′ : List ℕ) (o : Outcome)
+    → Returns (queryAlone numbers ends t allowance A B) o A′ B′
+    → Returns (queryAlone numbers ends t allowance A B) o A′ B′ × (AloneDemand2 numbers ends t (length A) o A′ B′ × AloneDemand3 numbers ends t allowance B o B′)
+demanded numbers ends t allowance A B f A′ B′ o h =
+    let q = queryAlone numbers ends t allowance A B in (
+      h,
+      (
+        returned (AloneDemand2 numbers ends t (length A)) q h (alone-demand2 numbers ends t allowance A B f),
+        returned (λ x A₁ B₁. AloneDemand3 numbers ends t allowance B x B₁) q h (alone-demand3 numbers ends t allowance A B f),
+      ),
+    )

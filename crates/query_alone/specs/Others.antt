@@ -1,11 +1,10 @@
 -- What the walk over the other runs comes to, and the answers after it. Definitions only.
 use Prim.Native.Nat.{ℕ, _≤_, _<_}
-use mathlib.Core.Bool.{true, false}
 use mathlib.Core.List.{List}
 use mathlib.Core.Path.{_≡_}
-use lib.Dec.{ltb}
 use lib.ListN.{length, take}
 use Rattle.field_read.specs.Held.{partsHeld}
+use Rattle.model.specs.Alone.{fullNumber}
 use Rattle.model.specs.Certificate.{encode}
 use Rattle.model.specs.Compared.{partsOf}
 use Rattle.model.specs.Refusals.{Ended, Outcome, over}
@@ -32,10 +31,6 @@ pub record Walked (e : Ended) (allowance : ℕ) (certificate certificate′ : Li
 -- what of the run lies in the gaps of the certificate's bytes
 unfoldable pub foundIn : List ℕ → List ℕ → ℕ → List ℕ
 foundIn run certificate bytes = inGaps (partsHeld (take bytes certificate)) run
-
--- 5 where one more is due than there are places
-unfoldable pub fullNumber : ℕ → List ℕ → ℕ
-fullNumber places found = elim (ltb places (length found)) [ true ↦ 5 | false ↦ 0 ]
 
 -- the bins found are written, as many as fit
 pub record FoundAfter (run certificate : List ℕ) (allowance : ℕ) (w : State) (answers answers′ : List ℕ) (o : Outcome) : Type 0 where

@@ -2,7 +2,7 @@
 ghost use mathlib.Core.Path.{_≡_};
 ghost use Prim.Native.Nat.{_≤_};
 ghost use lib.ListN.{length};
-ghost use Rattle.model.specs.Alone.{newBins, otherRuns, aloneChecks, unansweredWalk, queryAlone};
+ghost use Rattle.model.specs.Alone.{newBins, otherRuns, aloneChecks, walkWithoutAnswers, queryAlone};
 ghost use Rattle.model.specs.AloneDemands.{AloneDemand2, AloneDemand3};
 ghost use Rattle.model.specs.Refusals.{passed};
 ghost use Rattle.model.specs.Runs.{runs};
@@ -25,7 +25,7 @@ fn walk_others(
     certificate: &mut [u8],
 ) -> End
     requires { ⌜ (aloneChecks (now numbers) (now ends) threshold ≡ passed) × RunsPlaced (now numbers) (now ends) (now firsts) ⌝ }
-    ensures { λ r. ⌜ Walked (unansweredWalk threshold (otherRuns (runs (now (numbers .entry)) (now (ends .entry)))) allowance (length (now (certificate .entry)))) allowance (now (certificate .entry)) (now (certificate .exit)) r ⌝ }
+    ensures { λ r. ⌜ Walked (walkWithoutAnswers threshold (otherRuns (runs (now (numbers .entry)) (now (ends .entry)))) allowance (length (now (certificate .entry)))) allowance (now (certificate .entry)) (now (certificate .exit)) r ⌝ }
 {
     let mut unused = [0u32; 1];
     let others = mask::without_run(mask::all_runs(ends.len()), 0);

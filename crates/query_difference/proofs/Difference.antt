@@ -12,20 +12,13 @@ use Rattle.model.proofs.Fewest.{covers-nil, covers-first, covers-order, covers-
 use Rattle.model.proofs.From.{rise-head-bin, rise-tail, rise-least, rise-from, from-nil, from-pass, from-stop, rank-nil, rank-pass, rank-stop, holds-mem}
 use Rattle.model.proofs.Tests.{both, lt-or-le, eq-or-ne}
 use Rattle.model.specs.Alone.{without}
+use Rattle.model.proofs.Alone.{without-held, without-new}
 use Rattle.model.specs.Certificate.{Part, answer, gap, firstOf, lastOf, answersOf, Covers}
 use Rattle.model.specs.Rows.{Rise, rise-nil, rise-cons}
 use Rattle.model.specs.Runs.{from, rank, holds, pastBin}
 use Rattle.query_difference.specs.Gaps.{passedOver, inGaps}
 
 -- ---- what is no answer
-
-without-kept : (answers : List ℕ) (x : ℕ) (s : List ℕ) → holds x answers ≡ false → without answers (x ∷ s) ≡ x ∷ without answers s
-unfolding without
-without-kept answers x s h = rw (h, without)
-
-without-passed : (answers : List ℕ) (x : ℕ) (s : List ℕ) → holds x answers ≡ true → without answers (x ∷ s) ≡ without answers s
-unfolding without
-without-passed answers x s h = rw (h, without)
 
 holds-here : (x v : ℕ) (answers : List ℕ) → x ≡ v → holds x (v ∷ answers) ≡ true
 unfolding holds
@@ -63,7 +56,7 @@ without-below {b} ps c [] = rw (rank-nil b, from-nil b)
 without-below {b} ps c (x ∷ s) =
     ⊎-elim
     (λ (h : x < b).
-    rw (rank-pass b x s h, from-pass b x s h, without-kept (answersOf ps) x s (none-below ps c x h)) (ap (λ l. x ∷ l) (without-below ps c s)))
+    rw (rank-pass b x s h, from-pass b x s h, without-new (answersOf ps) x s (none-below ps c x h)) (ap (λ l. x ∷ l) (without-below ps c s)))
     (λ (h : b ≤ x). rw (rank-stop b x s h, from-stop b x s h))
     (lt-or-le x b)
 
@@ -78,8 +71,8 @@ without-above v answers (x ∷ s) h r =
     let i = without-above v answers s (omega arith) (rise-tail r) in
     let h = holds-there x v answers n in
     ⊎-elim
-    (λ q. without-passed (v ∷ answers) x s (h ∙ q) ∙ (i ∙ sym (without-passed answers x s q)))
-    (λ q. without-kept (v ∷ answers) x s (h ∙ q) ∙ (ap (λ l. x ∷ l) i ∙ sym (without-kept answers x s q)))
+    (λ q. without-held (v ∷ answers) x s (h ∙ q) ∙ (i ∙ sym (without-held answers x s q)))
+    (λ q. without-new (v ∷ answers) x s (h ∙ q) ∙ (ap (λ l. x ∷ l) i ∙ sym (without-new answers x s q)))
     (both (holds x answers))
 
 above : {v a x : ℕ} {s : List ℕ} → Rise a (x ∷ s) → v < x → Rise (suc v) (x ∷ s)
@@ -103,7 +96,7 @@ without-answer v answers (x ∷ s) r =
     let l = rise-least r (List·Memᴰ·head refl) in
     ⊎-elim
     (λ (e : x ≡ v).
-    rw (passedOver, eq-eqb x v e, without-passed (v ∷ answers) x s (holds-here x v answers e)) (sym (without-above v answers s (omega arith) (rise-tail r))))
+    rw (passedOver, eq-eqb x v e, without-held (v ∷ answers) x s (holds-here x v answers e)) (sym (without-above v answers s (omega arith) (rise-tail r))))
     (λ (e : x ≢ v).
     let q : Rise (suc v) (x ∷ s) = above r (omega arith) in
     rw (passedOver, ne-eqb x v e) (sym (without-above v answers (x ∷ s) (omega arith) q)))

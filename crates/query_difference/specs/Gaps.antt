@@ -18,7 +18,8 @@ unfoldable pub passedOver : ℕ → List ℕ → List ℕ
 passedOver v [] = []
 passedOver v (x ∷ s) = elim (eqb x v) [ true ↦ s | false ↦ x ∷ s ]
 
--- The bins of a list that lie in the gaps of some parts, part by part: up to a gap's last all are kept.
+-- Along some parts: up to a gap's last all bins of the list are kept, and an answer's bin is passed over. Where the parts cover the bins, what is kept is what lies in
+-- gaps.
 unfoldable pub inGaps : List Part → List ℕ → List ℕ
 inGaps [] s = []
 inGaps (gap f l m ∷ ps) s = take (rank (suc l) s) s ++ inGaps ps (from (suc l) s)

@@ -1,9 +1,9 @@
 -- A call with many questions, one question at a time: a question that reaches its end is told in the result row, and the call goes on from there with what is
 -- left; one that a refusal ends, ends the call. Assumes nothing.
-use Prim.Native.Nat.{ℕ, zero, suc, _+_, _-_, _*_, _≤_}
+use Prim.Native.Nat.{ℕ, suc, _+_, _-_, _*_, _≤_}
 use lib.ListN.{length, drop, length-append}
 use mathlib.Core.List.{List, [], _∷_, _++_, append-nil}
-use mathlib.Core.Path.{_≡_, refl, sym, ap, _∙_, subst}
+use mathlib.Core.Path.{_≡_, sym, ap, _∙_, subst}
 use native.Mathlib.Omega.{arith}
 use Rattle.field_write.specs.Stored.{placed}
 use Rattle.model.specs.Certificate.{answersOf, encode}
@@ -15,7 +15,7 @@ use Rattle.model.specs.Walk.{Event}
 use Rattle.model.proofs.Cutting.{Fitted, cut-fitted, cut-within, parts-bytes}
 use Rattle.model.proofs.Events.{parts-append, cost-append, both-kinds}
 use Rattle.model.proofs.Many.{answers-writing, bytes-writing, left-probes, walks-on, walks-stop, ending-on, ending-here, reached-on, reached-stop}
-use Rattle.walk_progress.specs.Progress.{Counts, noCounts, probesSo, outcomeAt, ended, countsMore, countsAfter, roomWith, roomAt, onward}
+use Rattle.walk_progress.specs.Progress.{Counts, noCounts, probesSo, ended, countsMore, countsAfter, roomWith, roomAt, onward}
 use Rattle.walk_progress.proofs.Progress.{counts-same, counts-none, outcome-same, onward-writes, placed-on, placed-none, placed-keeps}
 use Rattle.query_progress.specs.Calls.{callOutcome, callEnded, callOnward}
 

@@ -5,7 +5,7 @@ use borrow.Author.Tests.{eq-eqb, ne-eqb, le-ltb, lt-ltb, le-leb, lt-leb}
 use lib.ListN.{length, take, drop, set, length-append}
 use lib.Seq.{take-append-seam, drop-append-add, drop-drop, length-take-le, set-split}
 use mathlib.Core.List.{List, [], _∷_, _++_, append-assoc, append-nil}
-use mathlib.Core.Bool.{Bool, true, false}
+use mathlib.Core.Bool.{true, false}
 use mathlib.Core.Logic.{⊎-elim, _≢_}
 use mathlib.Core.Path.{_≡_, refl, sym, ap, _∙_}
 use native.Mathlib.Omega.{arith}
@@ -20,7 +20,7 @@ use Rattle.model.proofs.Cutting.{cut-on, cut-here}
 use Rattle.model.proofs.Encoding.{part-size}
 use Rattle.model.proofs.Events.{cost-append, both-kinds}
 use Rattle.model.proofs.Quiet.{Quiet, quiet-parts, spent, cut-quiet, Spent}
-use Rattle.model.proofs.Tests.{both, lt-or-le}
+use Rattle.model.proofs.Tests.{lt-or-le}
 use Rattle.walk_progress.specs.Progress.{Counts, noCounts, probesSo, outcomeAt, ended, countsMore, countsAfter, writesAnswers, answersWritten, placesFor, roomWith, roomAt, finish, onward, withAnswer, withUnwritten, withGap, withProbes}
 
 -- ---- placing one thing after another

@@ -1,6 +1,6 @@
 -- Past an answer at the floor: the runs that hold it are moved on by one, and the rows hold the runs from the next bin on. Also the front of the row at the
 -- floor, and what is left after a front is taken out. Assumes nothing.
-use Prim.Native.Nat.{ℕ, suc, _+_, _-_, _*_, _^_, _≤_, _<_}
+use Prim.Native.Nat.{ℕ, suc, _+_, _*_, _^_, _≤_, _<_}
 use borrow.Author.Tests.{lt-ltb, le-ltb, eq-eqb, ne-eqb, eqb-true}
 use lib.Count.{ones}
 use lib.Dec.{ltb, eqb}

@@ -1,7 +1,7 @@
 -- A part written or not, as the walk sees it. Assumes nothing.
 use Prim.Native.Nat.{ℕ, _+_, _-_, _≤_, _<_}
 use borrow.Author.Tests.{lt-ltb, le-ltb}
-use lib.ListN.{length, set, length-set}
+use lib.ListN.{length, set}
 use mathlib.Core.List.{List, [], _∷_, _++_}
 use mathlib.Core.Logic.{⊎-elim, _≢_}
 use mathlib.Core.Path.{_≡_, refl, sym, ap, _∙_, subst}
@@ -15,20 +15,16 @@ use Rattle.model.proofs.Tests.{lt-or-le}
 use Rattle.walk_progress.specs.Progress.{countsWith, onward, ended, withGap, withAnswer, withUnwritten}
 use Rattle.walk_progress.proofs.Progress.{size-gap, size-answer, onward-gap, gap-full, onward-answer, onward-unwritten, answers-full, answer-full}
 use Rattle.walk_tally.specs.Tally.{halvedIn, undoubled}
-use Rattle.walk_write.specs.Writes.{countsOf, goesOn, endsWith, Fitted, Writes, gapEvents, Answers}
+use Rattle.walk_write.specs.Writes.{countsOf, goesOn, endsWith, Fitted, afterPart, Writes, gapEvents, Answers}
 use Rattle.walk_write.specs.declared.Answered.the-variants as answered′
 use Rattle.walk_write.specs.declared.State.{State}
 use Rattle.walk_write.specs.declared.Wrote.the-variants as wrote′
 
 -- ---- a gap
 
--- the state after a gap
-abbrev pub afterGap : State → ℕ → State
-afterGap w bytes = record { floor = w .floor; start = w .start; answers = w .answers; parts = w .parts + 1; bytes = bytes; tally = w .tally; weight = w .weight }
-
 pub gap-on : (w : State) (B B′ : List ℕ) (last named bytes : ℕ) → w .bytes ≤ length B → w .parts ≤ w .bytes
     → Next bytes ≡ storedResult B (w .bytes) (gap (w .floor) last named) → B′ ≡ stored B (w .bytes) (gap (w .floor) last named)
-    → Writes (wrote (gap (w .floor) last named) ∷ []) w B B′ (wrote′.On (afterGap w bytes))
+    → Writes (wrote (gap (w .floor) last named) ∷ []) w B B′ (wrote′.On (afterPart w (w .answers) bytes))
 unfolding goesOn countsOf withGap
 gap-on w B B′ last named bytes h p e f =
     let s = size-gap (w .floor) last named in
@@ -87,16 +83,13 @@ some-gap w B B′ v named r q h = subst (λ x. Writes x w B B′ r) (sym (gap-ev
 
 -- ---- an answer
 
-abbrev pub afterAnswer : State → ℕ → ℕ → State
-afterAnswer w answers bytes = record { floor = w .floor; start = w .start; answers = answers; parts = w .parts + 1; bytes = bytes; tally = w .tally; weight = w .weight }
-
 -- the answer fits the certificate: so many bytes, and what is said of the walk with the field placed
 module _ (w : State) (A A′ B B′ : List ℕ) (named bytes a : ℕ) (h : Fitted B w)
     (e : Next bytes ≡ storedResult B (w .bytes) (answer (w .floor) named)) (f : B′ ≡ stored B (w .bytes) (answer (w .floor) named)) where
   answer-goes : ((allowance : ℕ) (es : List Event) → w .bytes + 15 ≤ length B
       → goesOn allowance w A B (wrote (answer (w .floor) named) ∷ es)
       ≡ onward allowance (countsWith allowance a (w .parts + 1) (w .bytes + 15) (w .tally)) A′ (placed B (w .bytes) (encodePart (answer (w .floor) named))) es)
-      → Answers w named A B A′ B′ (answered′.On (afterAnswer w a bytes))
+      → Answers w named A B A′ B′ (answered′.On (afterPart w a bytes))
   unfolding goesOn countsOf
   answer-goes g =
       let s = size-answer (w .floor) named in
@@ -124,7 +117,7 @@ module _ (w : State) (A A′ B B′ : List ℕ) (named bytes a : ℕ) (h : Fitte
 
 pub answer-on : (w : State) (A B B′ : List ℕ) (named bytes : ℕ) → Fitted B w → w .answers < length A
     → Next bytes ≡ storedResult B (w .bytes) (answer (w .floor) named) → B′ ≡ stored B (w .bytes) (answer (w .floor) named)
-    → Answers w named A B (set A (w .answers) (w .floor)) B′ (answered′.On (afterAnswer w (w .answers + 1) bytes))
+    → Answers w named A B (set A (w .answers) (w .floor)) B′ (answered′.On (afterPart w (w .answers + 1) bytes))
 unfolding goesOn countsOf withAnswer
 answer-on w A B B′ named bytes h x e f =
     answer-goes w A (set A (w .answers) (w .floor)) B B′ named bytes (w .answers + 1) h e f
@@ -133,7 +126,7 @@ answer-on w A B B′ named bytes h x e f =
 -- the walk is told not to write answers
 pub answer-unwritten : (w : State) (A B B′ : List ℕ) (named bytes : ℕ) → Fitted B w → w .answers ≢ length A → length A ≤ w .answers
     → Next bytes ≡ storedResult B (w .bytes) (answer (w .floor) named) → B′ ≡ stored B (w .bytes) (answer (w .floor) named)
-    → Answers w named A B A B′ (answered′.On (afterAnswer w (w .answers) bytes))
+    → Answers w named A B A B′ (answered′.On (afterPart w (w .answers) bytes))
 unfolding goesOn countsOf withUnwritten
 answer-unwritten w A B B′ named bytes h n x e f =
     answer-goes w A A B B′ named bytes (w .answers) h e f

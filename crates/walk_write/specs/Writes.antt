@@ -1,5 +1,5 @@
 -- A walk's state between its steps, and what the steps that write a part ask and give: what the question comes to stays the same. Definitions only.
-use Prim.Native.Nat.{ℕ, _-_, _≤_, _<_}
+use Prim.Native.Nat.{ℕ, _+_, _-_, _≤_, _<_}
 use mathlib.Core.Bool.{true, false}
 use mathlib.Core.List.{List, [], _∷_, _++_, List·Memᴰ}
 use mathlib.Core.Path.{_≡_}
@@ -33,6 +33,10 @@ endsWith number allowance w answers certificate = ended number (countsOf allowan
 pub record Fitted (certificate : List ℕ) (w : State) : Type 0 where
   pub written : w .bytes ≤ length certificate
   pub parts : w .parts ≤ w .bytes
+
+-- the state after a part up to so many bytes, so many answers being written
+abbrev pub afterPart : State → ℕ → ℕ → State
+afterPart w answers bytes = record { floor = w .floor; start = w .start; answers = answers; parts = w .parts + 1; bytes = bytes; tally = w .tally; weight = w .weight }
 
 -- a part written: the certificate keeps its length, and only the counts of parts and bytes grow
 pub record Grown (w : State) (certificate : List ℕ) (w′ : State) (certificate′ : List ℕ) : Type 0 where

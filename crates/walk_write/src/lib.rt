@@ -1,11 +1,11 @@
-// The parts that a round writes: the gap before v, the last gap, and an answer, which goes into both buffers or into neither.
+// The parts that a round writes: the gap before v, the last gap, and an answer, which goes into both buffers or into neither, or into the certificate alone.
 ghost use mathlib.Core.List.{_∷_, []};
 ghost use mathlib.Core.Path.{_≡_};
-ghost use Prim.Native.Nat.{_+_, _≤_, _<_};
+ghost use Prim.Native.Nat.{_≤_, _<_};
 ghost use lib.ListN.{length};
 ghost use Rattle.model.specs.Certificate.{gap};
 ghost use Rattle.model.specs.Walk.{wrote};
-ghost use Rattle.walk_write.specs.Writes.{LastReady, LastGap, Fitted, Writes, gapEvents, Answers};
+ghost use Rattle.walk_write.specs.Writes.{LastReady, LastGap, Fitted, afterPart, Writes, gapEvents, Answers};
 use field_write::Written;
 
 // Where a walk stands: the floor, where the row of keys starts, what is written, the tally of its probes (walk_tally), and the weight still in play (walk_weight).
@@ -41,7 +41,7 @@ pub enum Turn {
 // The state after a part up to `bytes`, `answers` being written.
 fn after_part(w: State, answers: usize, bytes: usize) -> State
     requires { ⌜ w .parts < 18446744073709551615 ⌝ }
-    ensures { λ r. ⌜ r ≡ record { floor = w .floor; start = w .start; answers = answers; parts = w .parts + 1; bytes = bytes; tally = w .tally; weight = w .weight } ⌝ }
+    ensures { λ r. ⌜ r ≡ afterPart w answers bytes ⌝ }
 {
     State {
         floor: w.floor,
@@ -89,8 +89,8 @@ pub fn last_gap(chosen: u64, keys: &[u64], certificate: &mut [u8], w: State) -> 
     Turn::Done(x)
 }
 
-// Writes the floor as an answer into both buffers, or into neither. A count of answers above the places of their buffer tells the walk not to write them: then it goes
-// into the certificate alone.
+// Writes the floor as an answer into both buffers, or into neither. A count of answers above the places of their buffer tells the walk not to write them: then the answer
+// goes into the certificate alone.
 pub fn write_answer(answers: &mut [u32], certificate: &mut [u8], w: State, named: u64) -> Answered
     requires { ⌜ Fitted (now certificate) w ⌝ }
     ensures { λ r. ⌜ Answers w named (now (answers .entry)) (now (certificate .entry)) (now (answers .exit)) (now (certificate .exit)) r ⌝ }

@@ -77,7 +77,8 @@ Columns of the sixth table, what the first run holds and fewer than t of the oth
   alone ms        time of the question, in milliseconds
   plain ms        time of the query of the other runs without it, in milliseconds
   alone/plain     time of the question divided by that of the query
-  alone/same      the same for the library's own way in Rust
+  alone/same      the same for the library's own way in Rust, whose walk writes the
+                  answers of the others too
 
 Columns of the seventh table, the last section of a tracefile read as a run:
   case            which tracefile: one of many sections, or of one with all its records

@@ -15,7 +15,7 @@ pub struct Alone<'a> {
     pub numbers: &'a [u32],
     /// Where each run ends.
     pub ends: &'a [u32],
-    /// How many of the other runs must hold what is no answer.
+    /// A bin of the first run is an answer if fewer of the other runs hold it.
     pub threshold: u32,
 }
 

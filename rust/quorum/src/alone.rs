@@ -7,8 +7,8 @@ use crate::{ffi, queried, Counts, Stopped};
 ///
 /// They are the bins of run 0 that are no answer of the question about runs 1 to
 /// k − 1, and `certificate` gets the certificate of that question. So its parts of
-/// kind answer are what the other runs hold often enough, and no mask names run 0;
-/// run `i` is bit `i`. [`check_chosen()`](crate::check_chosen()) checks it with a
+/// kind answer are the bins that at least `threshold` of the other runs hold, and no
+/// mask names run 0; run `i` is bit `i`. [`check_chosen()`](crate::check_chosen()) checks it with a
 /// mask of all runs but run 0. No true certificate of the other runs has fewer
 /// parts. Places of both buffers after what was written are unchanged.
 ///

@@ -63,8 +63,8 @@ pub const ENOUGH_PROBES: u32 = 44_040_192;
 /// numbers, with weights or without: refusal
 /// [`ANSWERS_FULL`](crate::Refusal::ANSWERS_FULL) never occurs (proved). Many
 /// questions in one call need at most this for each of them.
-/// [`query_alone()`](crate::query_alone()) needs at most this of the first run's
-/// numbers.
+/// [`query_alone()`](crate::query_alone()) needs at most this for the numbers of the
+/// first run.
 ///
 /// ```
 /// assert_eq!(quorum::enough_answers(9), 9);
@@ -81,8 +81,8 @@ pub const fn enough_answers(numbers: usize) -> usize {
 ///
 /// There may be a gap and an answer for each number, and a gap at the end. Many
 /// questions in one call need at most this for each of them.
-/// [`query_alone()`](crate::query_alone()) needs at most this of the other runs'
-/// numbers.
+/// [`query_alone()`](crate::query_alone()) needs at most this for the numbers of the
+/// other runs.
 ///
 /// ```
 /// let mut certificate = [0; quorum::enough_bytes(9)];

@@ -1,6 +1,6 @@
 -- `alone_checks` makes its checks over one run less than there are. Assumes nothing.
 use borrow.Author.Needs.{needs}
-use mathlib.Core.Path.{_≡_, ap, _∙_}
+use mathlib.Core.Path.{ap, _∙_}
 use Rattle.model.specs.Alone.{aloneChecks}
 use Rattle.model.specs.Refusals.{_then_, countCheck, thresholdCheck, listChecks}
 use Rattle.first_checks.proofs.alone_checks.Statement.{statement}

@@ -1,11 +1,11 @@
 -- `query` returns the specified outcome and buffers for any input, and demands 2 and 3 hold of them. Assumes nothing.
 use mathlib.Core.List.{[]}
-use mathlib.Core.Path.{_≡_, sym, ap, _∙_, subst}
+use mathlib.Core.Path.{sym, ap, _∙_, subst}
 use native.Mathlib.Omega.{arith}
 use Rattle.first_checks.specs.Checked.{checkOf}
 use Rattle.model.specs.Demands.{Fits}
-use Rattle.model.specs.Refusals.{passed, firstChecks, answeredBy, query}
-use Rattle.model.specs.Runs.{pastBin, runs, weighted}
+use Rattle.model.specs.Refusals.{passed, answeredBy, query}
+use Rattle.model.specs.Runs.{pastBin, runs}
 use Rattle.query.specs.Answerable.{Answerable}
 use Rattle.query.specs.Outcomes.{outcomeIs, Returns}
 use Rattle.walk_state.proofs.Moving.{past-is}
@@ -54,14 +54,14 @@ answer-requires c κs =
     (plain-answerable (a .numbers .now) (a .ends .now) (a .threshold) (sym (f .first-checks .ensures) ∙ ap checkOf (c .before .before .before .before .enum-told .given .1)))
 
 returns : tie.Need-returns
-unfolding query
+unfolding query answeredBy
 returns c =
     let f = c .before .before .before .before in
     let a = start-of f .args in
     let n = c .before .before .number .given in
     demanded _ (runs (a .numbers .now) (a .ends .now)) (a .threshold) (a .allowance) (a .answers .now) (a .certificate .now) (a .answers .now) (a .certificate .now)
     (outcomeIs (c .refused .result)) (fit (a .numbers .now) (a .ends .now) (a .threshold) (fits-bins f))
-    (refused-first _ (runs (a .numbers .now) (a .ends .now)) (a .threshold) (a .allowance) (a .answers .now) (a .certificate .now) (n .0 .0) (n .0 .1 .0)
+    (refused-first _ _ (a .answers .now) (a .certificate .now) (n .0 .0) (n .0 .1 .0)
     (sym (f .first-checks .ensures) ∙ ap checkOf (n .1)) (outcomeIs (c .refused .result)) (c .refused .ensures))
 
 same-length : tie.Need-same-length

@@ -1,5 +1,5 @@
 -- `query_weighted` returns the specified outcome and buffers for any input, and demands 2 and 3 hold of them. Assumes nothing.
-use mathlib.Core.Path.{_≡_, sym, ap, _∙_, subst}
+use mathlib.Core.Path.{sym, ap, _∙_, subst}
 use native.Mathlib.Omega.{arith}
 use Rattle.first_checks.specs.Checked.{checkOf}
 use Rattle.model.specs.Demands.{Fits}
@@ -44,14 +44,14 @@ answer-requires c κs =
     (weighted-answerable (a .numbers .now) (a .ends .now) (a .weights .now) (a .wanted) (sym (f .weighted-checks .ensures) ∙ ap checkOf (c .before .before .before .enum-told .given .1)))
 
 returns : tie.Need-returns
-unfolding queryWeighted
+unfolding queryWeighted answeredBy
 returns c =
     let f = c .before .before .before .before in
     let a = start-of f .args in
     let n = c .before .before .number .given in
     demanded _ (weighted (a .weights .now) (runs (a .numbers .now) (a .ends .now))) (a .wanted) (a .allowance) (a .answers .now) (a .certificate .now) (a .answers .now) (a .certificate .now)
     (outcomeIs (c .refused .result)) (weighted-fit (a .numbers .now) (a .ends .now) (a .weights .now) (a .wanted) (fits-bins f))
-    (refused-first _ (weighted (a .weights .now) (runs (a .numbers .now) (a .ends .now))) (a .wanted) (a .allowance) (a .answers .now) (a .certificate .now) (n .0 .0) (n .0 .1 .0)
+    (refused-first _ _ (a .answers .now) (a .certificate .now) (n .0 .0) (n .0 .1 .0)
     (sym (f .weighted-checks .ensures) ∙ ap checkOf (n .1)) (outcomeIs (c .refused .result)) (c .refused .ensures))
 
 same-length : tie.Need-same-length

@@ -25,6 +25,9 @@ placed-at c =
     let p = alone-passed (s .args .numbers .now) (s .args .ends .now) (s .args .threshold) (s .pre .0) in
     record { some-runs = omega (arith, p .some-runs); placed = c .first-places .ensures }
 
+fits-bins : (c : tie.After-first-places) → Fits pastBin (start-of c .args .numbers .now)
+fits-bins c = let e = past-is in fits pastBin (start-of c .args .numbers .now) (λ i. omega (arith, c .before .before .before .before .before .before .shared-slice-known .given i))
+
 first-places-requires : tie.Need-first-places-requires
 first-places-requires c κs =
     let s = c .before .before .before .before .before .before in
@@ -76,9 +79,8 @@ returns-2 c =
     let w = c .before .before .before .before .before .before .before .before .before .before in
     let s = start-of (places-of w) in
     let a = s .args in
-    let e = past-is in
     alone-ended (a .numbers .now) (a .ends .now) (a .threshold) (a .allowance) (a .answers .now) (a .certificate .now) (w .walk-others .last .1 .1 .1 .1 .1 .0) (w .walk-others .result) (s .pre .0)
-    (w .walk-others .ensures) (fits pastBin (a .numbers .now) (λ i. omega (arith, c .before .before .before .before .before .before .before .before .before .before .before .before .before .before .before .before .before .before .before .before .before .shared-slice-known .given i))) (c .before .before .before .before .before .before .if1 .left) (c .before .before .found-after .last .1 .1 .1 .1 .0)
+    (w .walk-others .ensures) (fits-bins (places-of w)) (c .before .before .before .before .before .before .if1 .left) (c .before .before .found-after .last .1 .1 .1 .1 .0)
     (outcomeIs (c .before .before .found-after .result)) (c .before .before .found-after .ensures)
 
 pub answer-with-spec : {M : Type 1} → statement M

@@ -1,13 +1,15 @@
 -- `query_alone` returns the specified outcome and buffers for any input, and demands 2 and 3 hold of them. Assumes nothing.
-use mathlib.Core.Path.{_≡_, sym, ap, _∙_}
+use mathlib.Core.Path.{sym, ap, _∙_}
 use borrow.Author.Needs.{needs}
 use native.Mathlib.Omega.{arith}
 use Rattle.first_checks.specs.Checked.{checkOf}
 use Rattle.model.proofs.FirstChecks.{fits}
+use Rattle.model.specs.Alone.{queryAlone}
 use Rattle.model.specs.Demands.{Fits}
 use Rattle.model.specs.Runs.{pastBin}
 use Rattle.query.specs.Outcomes.{outcomeIs}
-use Rattle.query_alone.proofs.Returning.{refused-first, demanded}
+use Rattle.query.proofs.Questions.{refused-first}
+use Rattle.query_alone.proofs.Returning.{demanded}
 use Rattle.walk_state.proofs.Moving.{past-is}
 use Rattle.query_alone.proofs.query_alone.Statement.{statement}
 use Rattle.query_alone.proofs.query_alone.Tie as tie
@@ -37,12 +39,13 @@ answer-requires c κs =
     sym (f .alone-checks .ensures) ∙ ap checkOf (c .before .before .enum-told .given .1)
 
 returns : tie.Need-returns
+unfolding queryAlone
 returns c =
     let f = c .before .before .before .before in
     let a = start-of f .args in
     let n = c .before .before .number .given in
     demanded (a .numbers .now) (a .ends .now) (a .threshold) (a .allowance) (a .answers .now) (a .certificate .now) (fits-bins f) (a .answers .now) (a .certificate .now) (outcomeIs (c .refused .result))
-    (refused-first (a .numbers .now) (a .ends .now) (a .threshold) (a .allowance) (a .answers .now) (a .certificate .now) (n .0 .0) (n .0 .1 .0) (sym (f .alone-checks .ensures) ∙ ap checkOf (n .1))
+    (refused-first _ _ (a .answers .now) (a .certificate .now) (n .0 .0) (n .0 .1 .0) (sym (f .alone-checks .ensures) ∙ ap checkOf (n .1))
     (outcomeIs (c .refused .result)) (c .refused .ensures))
 
 same-length : tie.Need-same-length

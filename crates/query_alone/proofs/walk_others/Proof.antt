@@ -1,10 +1,9 @@
 -- `walk_others` walks over all runs but run 0, told not to write answers. Assumes nothing.
 use borrow.Author.Needs.{needs}
 use lib.ListN.{length}
-use mathlib.Core.List.{[]}
-use mathlib.Core.Path.{_≡_, sym, ap, _∙_, subst}
+use mathlib.Core.Path.{_≡_, sym, subst}
 use native.Mathlib.Omega.{arith}
-use Rattle.model.specs.Alone.{otherRuns, otherMask, aloneChecks, unansweredWalk}
+use Rattle.model.specs.Alone.{otherRuns, otherMask, aloneChecks, walkWithoutAnswers}
 use Rattle.model.specs.Refusals.{passed}
 use Rattle.model.specs.Runs.{runs}
 use Rattle.model.proofs.Alone.{alone-passed}
@@ -90,7 +89,7 @@ returns c =
     let s = start-of h in
     let a = s .args in
     let t = h .before .before .before .usize-of-u32 in
-    subst (λ x. Walked (unansweredWalk x (otherRuns (runs (a .numbers .now) (a .ends .now))) (a .allowance) (length (a .certificate .now))) (a .allowance) (a .certificate .now) (w .question-walk .last .1 .1 .1 .1 .1 .1 .0) (w .question-walk .result)) (t .ensures)
+    subst (λ x. Walked (walkWithoutAnswers x (otherRuns (runs (a .numbers .now) (a .ends .now))) (a .allowance) (length (a .certificate .now))) (a .allowance) (a .certificate .now) (w .question-walk .last .1 .1 .1 .1 .1 .1 .0) (w .question-walk .result)) (t .ensures)
     (walked-so (a .numbers .now) (a .ends .now) (t .result) _ (passed-at h) (mask-is h) (a .allowance) (h .whole .result) (a .certificate .now) (w .question-walk .last .1 .1 .1 .1 .1 .0) (w .question-walk .last .1 .1 .1 .1 .1 .1 .0)
     (w .question-walk .result) (h .whole .ensures) (w .question-walk .ensures))
 

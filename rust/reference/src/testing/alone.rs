@@ -37,7 +37,7 @@ pub struct AloneInstance {
     pub name: String,
     /// The runs.
     pub runs: Vec<Vec<u32>>,
-    /// How many of the other runs must hold what is no answer.
+    /// A bin of the first run is an answer if fewer of the other runs hold it.
     pub threshold: u32,
     /// The probes allowed: exactly those needed if the question is accepted.
     pub allowance: u32,
