@@ -140,11 +140,55 @@ pub fn query(
     answers: &mut [u32],
     certificate: &mut [u8],
 ) -> [u64; 7] {
+    // SAFETY: it reads and writes only what it is lent, and returns.
+    unsafe {
+        row_of(
+            quorum_query,
+            numbers,
+            ends,
+            threshold,
+            allowance,
+            answers,
+            certificate,
+        )
+    }
+}
+
+/// A call with a threshold that writes answers, a certificate and a row.
+type Query = unsafe extern "C" fn(
+    *const u32,
+    usize,
+    *const u32,
+    usize,
+    u32,
+    u32,
+    *mut u32,
+    usize,
+    *mut u8,
+    usize,
+    *mut [u64; 7],
+);
+
+/// The row that the call writes.
+///
+/// # Safety
+///
+/// The call reads and writes only what it is lent.
+#[inline]
+unsafe fn row_of(
+    call: Query,
+    numbers: &[u32],
+    ends: &[u32],
+    threshold: u32,
+    allowance: u32,
+    answers: &mut [u32],
+    certificate: &mut [u8],
+) -> [u64; 7] {
     let mut result = [u64::MAX; 7];
     // SAFETY: each pointer and length are those of one slice, and the slices
     // written to are borrowed by this call alone.
     unsafe {
-        quorum_query(
+        call(
             numbers.as_ptr(),
             numbers.len(),
             ends.as_ptr(),
@@ -216,7 +260,7 @@ pub fn query_many(
     results: &mut [u64],
 ) -> [u64; 8] {
     let mut result = [u64::MAX; 8];
-    // SAFETY: as in `query`.
+    // SAFETY: as in `row_of`.
     unsafe {
         quorum_query_many(
             numbers.as_ptr(),
@@ -257,24 +301,18 @@ pub fn query_alone(
     answers: &mut [u32],
     certificate: &mut [u8],
 ) -> [u64; 7] {
-    let mut result = [u64::MAX; 7];
     // SAFETY: as in `query`.
     unsafe {
-        quorum_query_alone(
-            numbers.as_ptr(),
-            numbers.len(),
-            ends.as_ptr(),
-            ends.len(),
+        row_of(
+            quorum_query_alone,
+            numbers,
+            ends,
             threshold,
             allowance,
-            answers.as_mut_ptr(),
-            answers.len(),
-            certificate.as_mut_ptr(),
-            certificate.len(),
-            &mut result,
-        );
+            answers,
+            certificate,
+        )
     }
-    result
 }
 
 /// Returns refusal, place, answers and parts.
@@ -335,7 +373,7 @@ pub fn query_weighted(
     certificate: &mut [u8],
 ) -> [u64; 7] {
     let mut result = [u64::MAX; 7];
-    // SAFETY: as in `query`.
+    // SAFETY: as in `row_of`.
     unsafe {
         quorum_query_weighted(
             numbers.as_ptr(),
@@ -433,7 +471,7 @@ pub fn probe_bound_chosen(ends: &[u32], mask: u64, parts: u32) -> [u64; 3] {
 /// ```
 pub fn lcov_run(file: &[u8], section: usize, run: &mut [u32]) -> [u64; 3] {
     let mut result = [u64::MAX; 3];
-    // SAFETY: as in `query`.
+    // SAFETY: as in `row_of`.
     unsafe {
         quorum_lcov_run(
             file.as_ptr(),
