@@ -2,7 +2,8 @@
  * Asks which bins at least two of {2, 5, 9}, {5, 7, 9, 12} and {1, 9} hold, has
  * the certificate checked, and prints the results and the certificate's parts.
  * Then the same with the first run counting for three, and a weight of three wanted.
- * Last which bins of a new test, {2, 5, 8, 9}, fewer than two of the three hold.
+ * Then which bins of a new test, {2, 5, 8, 9}, fewer than two of the three hold.
+ * Last which bins both of the first two hold, without a certificate.
  * It prints what is in expected.txt.
  *
  *     cc -Iinclude examples/query.c -Ltarget/staticlib -lquorum
@@ -66,13 +67,22 @@ static void print_part(const part_t *part) {
     }
 }
 
-/** Prints a row of a question, or of a check, which has the first of its places. */
+/**
+ * Prints a row of a question, or of a check or a pair, which have the first of its
+ * places.
+ */
 static void print_row(const uint64_t *row, int count) {
     static const char *const names[QUORUM_QUERY_ROW] = {
         "refusal", "place",     "answers", "parts",
         "bytes",   "doublings", "halvings"};
     for (int i = 0; i < count; i++) {
         printf("%s %" PRIu64 "\n", names[i], row[i]);
+    }
+}
+
+static void print_answers(const uint32_t *answers, uint64_t count) {
+    for (uint64_t i = 0; i < count; i++) {
+        printf("answer %" PRIu32 "\n", answers[i]);
     }
 }
 
@@ -86,9 +96,7 @@ static int print_all(const uint64_t *result, const uint32_t *answers,
     part_t part;
 
     print_row(result, QUORUM_QUERY_ROW);
-    for (uint64_t i = 0; i < result[QUORUM_QUERY_ANSWERS]; i++) {
-        printf("answer %" PRIu32 "\n", answers[i]);
-    }
+    print_answers(answers, result[QUORUM_QUERY_ANSWERS]);
     while (offset < result[QUORUM_QUERY_BYTES]) {
         size = read_part(certificate + offset,
                          result[QUORUM_QUERY_BYTES] - offset, &part);
@@ -113,6 +121,7 @@ int main(void) {
     uint32_t answers[QUORUM_ENOUGH_ANSWERS(13)];
     uint8_t certificate[QUORUM_ENOUGH_BYTES(13)];
     uint64_t result[QUORUM_QUERY_ROW], verdict[QUORUM_CHECK_ROW];
+    uint64_t pair[QUORUM_PAIR_ROW];
     int failed;
 
     quorum_query(numbers, 9, ends, 3, 2, QUORUM_ENOUGH_PROBES, answers,
@@ -136,5 +145,9 @@ int main(void) {
     quorum_check_chosen(tests, 13, test_ends, 4, all_but_run_0, 2, certificate,
                         result[QUORUM_QUERY_BYTES], verdict);
     failed |= print_all(result, answers, certificate, verdict);
-    return failed;
+
+    quorum_pair(numbers, 7, ends, 2, answers, QUORUM_ENOUGH_ANSWERS(13), pair);
+    print_row(pair, QUORUM_PAIR_ROW);
+    print_answers(answers, pair[QUORUM_PAIR_ANSWERS]);
+    return failed || pair[QUORUM_REFUSAL] != QUORUM_ACCEPTED;
 }

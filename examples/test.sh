@@ -87,5 +87,5 @@ for compiler in "$c" "$cxx"; do
 done
 echo "examples/query.c prints what it should"
 
-c_lines README.md | run_lines README.md 13
-awk '/^ \*\// { on = 0 } on && sub(/^ \*     /, ""); /^ \* Example/ { on = 1 }' include/quorum.h | run_lines quorum.h 21
+c_lines README.md | run_lines README.md 17
+awk '/^ \*\// { on = 0 } on && sub(/^ \*     /, ""); /^ \* Example/ { on = 1 }' include/quorum.h | run_lines quorum.h 25

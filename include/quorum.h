@@ -54,6 +54,9 @@
  * answer names runs that weigh at least that much and each gap leaves out runs that
  * weigh less. Without weights each run weighs 1. Weights never come with a mask.
  *
+ * Two runs may be compared without a certificate and without an allowance:
+ * quorum_pair writes the bins that both hold.
+ *
  * The lines that a test reached are a run too: quorum_lcov_run reads one section
  * of an LCOV tracefile.
  */
@@ -69,7 +72,7 @@ extern "C" {
 
 /** The version. While the major number is 0, a higher minor one may change calls. */
 #define QUORUM_VERSION_MAJOR 0
-#define QUORUM_VERSION_MINOR 8
+#define QUORUM_VERSION_MINOR 9
 #define QUORUM_VERSION_PATCH 0
 
 /**
@@ -88,7 +91,8 @@ extern "C" {
  * `room-enough`, `weighted-room-enough`.) Many questions in one call need at most
  * this for each of them. (Proved: `many-room-enough`.) quorum_query_alone needs at
  * most so many answers for the numbers of run 0, and so many bytes for those of the
- * other runs. (Proved: `alone-room-enough`.)
+ * other runs. (Proved: `alone-room-enough`.) quorum_pair needs at most so many
+ * answers for the numbers of the shorter run. (Proved: `pair-room`.)
  */
 #define QUORUM_ENOUGH_ANSWERS(n) ((size_t)(n))
 #define QUORUM_ENOUGH_BYTES(n) (34 * (size_t)(n) + 19)
@@ -132,12 +136,14 @@ extern "C" {
  * quorum_query_weighted and quorum_check_weighted have 1, 17, 2, 3 and 4 first, in
  * this order, then 5 to 7 as quorum_query and 8 to 11 as quorum_check.
  *
+ * quorum_pair has 1, 3 and 4 first, in this order, and then 5.
+ *
  * quorum_lcov_run has 15, 4 and 5 in this order for each record, and 16 at the end
  * of the file.
  */
 enum {
     QUORUM_ACCEPTED = 0,
-    /** No runs or more than 64. Place: ends_len. */
+    /** No runs or more than 64; for quorum_pair, not two. Place: ends_len. */
     QUORUM_BAD_RUN_COUNT = 1,
     /**
      * The threshold is 0 or above the number of runs, or of those chosen, or for
@@ -160,8 +166,9 @@ enum {
     /**
      * An answer is due and the answer buffer is full. The place of 5 to 7 is the
      * number of parts written, from quorum_query_many those of the question that
-     * was stopped; at 5 of quorum_query_alone that is all of them. From
-     * quorum_lcov_run: a number is due and the row is full; place: the count written.
+     * was stopped; at 5 of quorum_query_alone that is all of them. From quorum_pair:
+     * place: the answers written. From quorum_lcov_run: a number is due and the row
+     * is full; place: the count written.
      */
     QUORUM_ANSWERS_FULL = 5,
     /** A part is due and does not fit the certificate buffer. */
@@ -241,6 +248,9 @@ enum {
     QUORUM_CHECK_ANSWERS = 2,
     QUORUM_CHECK_PARTS = 3,
     QUORUM_CHECK_ROW = 4,
+
+    QUORUM_PAIR_ANSWERS = 2,
+    QUORUM_PAIR_ROW = 3,
 
     QUORUM_BETWEEN_START = 0,
     QUORUM_BETWEEN_END = 1,
@@ -436,6 +446,44 @@ void quorum_query_alone(const uint32_t *numbers, size_t numbers_len,
                         uint32_t *answers, size_t answers_len,
                         uint8_t *certificate, size_t certificate_len,
                         uint64_t result[QUORUM_QUERY_ROW]);
+
+/**
+ * Write the bins that both of two runs hold to `answers`, rising. They are the
+ * answers of quorum_query with a threshold of 2; there is no certificate and no
+ * allowance.
+ *
+ * The runs are split by mutual partition: the middle number of the shorter one is
+ * sought in the longer one by halving, and what lies below it in both, and then what
+ * lies above it, is treated in the same manner. The order of the runs does not change
+ * the answers.
+ *
+ * `result` receives refusal and place, and the answers written. Refusals 1, 3 and 4
+ * write nothing, and their count is 0; any number of runs but two is 1. After 5 the
+ * answer buffer is full of the least answers, the place being their number. Later
+ * places of it are unchanged, also of an accepted call.
+ *
+ * There are at most as many answers as numbers in the shorter run: with room for so
+ * many, or QUORUM_ENOUGH_ANSWERS of all numbers, 5 never occurs. (Proved: `few-found`,
+ * `pair-room`.)
+ *
+ * Cost: one pass over the numbers for the first checks, then, for m bins in the
+ * shorter run and n in the longer one, comparisons of the order of
+ * m * (1 + log2(n / m)). It nests no deeper than m has binary digits, so at most 20
+ * calls deep on the stack for QUORUM_MAX_NUMBERS numbers in all.
+ *
+ * Example: what both of {2, 5, 9} and {5, 7, 9, 12} hold, which are the first two of
+ * the runs above; then with room for one answer.
+ *
+ *     uint32_t both[QUORUM_ENOUGH_ANSWERS(3)];
+ *     uint64_t pair[QUORUM_PAIR_ROW];
+ *     quorum_pair(numbers, 7, ends, 2, both, 3, pair);
+ *     // pair: 0, 0, 2; both: 5, 9
+ *     quorum_pair(numbers, 7, ends, 2, both, 1, pair);
+ *     // pair: 5, 1, 1; both: 5
+ */
+void quorum_pair(const uint32_t *numbers, size_t numbers_len,
+                 const uint32_t *ends, size_t ends_len, uint32_t *answers,
+                 size_t answers_len, uint64_t result[QUORUM_PAIR_ROW]);
 
 /**
  * Decide whether a certificate is true for the runs and `threshold`, whoever

@@ -4,8 +4,9 @@ use mathlib.Core.List.{List, [], _∷_, _++_, map}
 use mathlib.Core.Path.{_≡_}
 use lib.ListN.{length, replicate}
 use Rattle.model.specs.Refusals.{Check, passed, refusal, over}
+use Rattle.row_fill.specs.Filling.{Filling}
 use Rattle.text_read.specs.Text.{bytes}
-use Rattle.lcov_form.specs.Reading.{Result, lcovRun}
+use Rattle.lcov_form.specs.Reading.{lcovRun}
 
 -- A file, the index of a section, the room in the row, which holds nines, and the outcome with the numbers that it writes.
 pub record Instance : Type 0 where
@@ -15,10 +16,10 @@ pub record Instance : Type 0 where
   pub check : Check
   pub run : List ℕ
 
-unfoldable pub read : Instance → Result
+unfoldable pub read : Instance → Filling
 read i = lcovRun (i .file) (i .index) (replicate (i .room) 9)
 
-unfoldable pub expected : Instance → Result
+unfoldable pub expected : Instance → Filling
 expected i =
     record { check = i .check; count = length (i .run); row = over (i .run) (replicate (i .room) 9) }
 

@@ -5,6 +5,7 @@ use mathlib.Core.List.{List, [], _∷_}
 use lib.Dec.{leb}
 use lib.ListN.{length, getD}
 use Rattle.model.specs.Refusals.{Check, passed, refusal, over}
+use Rattle.row_fill.specs.Filling.{Filling}
 use Rattle.lcov_form.specs.Form.{lines, Section, closed, unclosed, _andThen_, sections, covered, malformed, passedOver, recordOf}
 
 -- One section becomes one run: the line number of each `DA:` record whose count is above 0, in the order met.
@@ -47,13 +48,8 @@ unfoldable pub sectionOf : List ℕ → ℕ → Section
 sectionOf file index = getD (sections false (lines file)) index unclosed
 
 -- The outcome, the count written, and what then stands in the row.
-pub record Result : Type 0 where
-  pub check : Check
-  pub count : ℕ
-  pub row : List ℕ
-
-unfoldable pub resultOf : Reading → List ℕ → Result
+unfoldable pub resultOf : Reading → List ℕ → Filling
 resultOf r row = record { check = r .check; count = length (r .run); row = over (r .run) row }
 
-unfoldable pub lcovRun : (file : List ℕ) (index : ℕ) (row : List ℕ) → Result
+unfoldable pub lcovRun : (file : List ℕ) (index : ℕ) (row : List ℕ) → Filling
 lcovRun file index row = resultOf (readFrom (length file) (length row) 0 0 (sectionOf file index)) row

@@ -14,8 +14,8 @@ use Rattle.lcov_form.specs.Reading.{Reading, stop, write, readFrom, resultOf}
 use Rattle.lcov_form.proofs.Steps.{line-malformed, line-passed, line-unrisen, line-full, line-covered}
 use Rattle.lcov_find.specs.Places.{sectionAt}
 use Rattle.lcov_find.proofs.Lines.{lines-past, Ends, lineTo, lines-next}
-use Rattle.lcov_run.specs.declared.Outcome.{Outcome}
-use Rattle.lcov_run.specs.Outcomes.{checkIs, countIs, Returns}
+use Rattle.row_fill.specs.Filling.{checkIs, countIs, Returns}
+use Rattle.row_fill.specs.declared.Filled.{Filled}
 
 -- what is read from a place on
 abbrev pub restOf : List ℕ → ℕ → ℕ → ℕ → ℕ → Reading
@@ -84,7 +84,7 @@ module _ {whole rest : Reading} {row₀ row : List ℕ} {n : ℕ} (p : Progress 
         lengths = length-set row n x ∙ p .lengths;
       }
 
-  pub progress-stop : (outcome : Outcome) → rest ≡ stop (checkIs outcome) → countIs outcome ≡ n → length (whole .run) ≤ length row₀
+  pub progress-stop : (outcome : Filled) → rest ≡ stop (checkIs outcome) → countIs outcome ≡ n → length (whole .run) ≤ length row₀
       → Returns (resultOf whole row₀) outcome row
   unfolding resultOf stop
   progress-stop outcome e c h =

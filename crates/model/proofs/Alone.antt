@@ -189,7 +189,7 @@ unfolding unrisenAfter
 after-rise i x rise-nil = refl
 after-rise i x (rise-cons {x = y} {s = s} l u r) = rw (lt-ltb x y l, unrisenAfter) (after-rise (suc i) y r)
 
-rise-unrisen : (i : ℕ) {a : ℕ} {s : List ℕ} → Rise a s → unrisen i s ≡ none
+pub rise-unrisen : (i : ℕ) {a : ℕ} {s : List ℕ} → Rise a s → unrisen i s ≡ none
 unfolding unrisen
 rise-unrisen i rise-nil = refl
 rise-unrisen i (rise-cons {x = x} l u r) = after-rise i x r

@@ -18,9 +18,10 @@ use Rattle.model.proofs.Alone.{others-chosen, other-ones, other-only, alone-pas
 use Rattle.model.proofs.FirstChecks.{then-second}
 use Rattle.model.proofs.Masks.{bit-of}
 use Rattle.query_alone.specs.Others.{RunsPlaced, Walked, foundIn, FoundAfter}
-use Rattle.query_difference.specs.Gaps.{inGaps, Keeps}
-use Rattle.query_difference.specs.declared.Kept.{Kept}
-use Rattle.query_difference.specs.declared.Kept.the-variants.{All, Full}
+use Rattle.query_difference.specs.Gaps.{inGaps}
+use Rattle.row_fill.specs.Keeps.{Keeps}
+use Rattle.row_fill.specs.declared.Kept.{Kept}
+use Rattle.row_fill.specs.declared.Kept.the-variants.{All, Full}
 use Rattle.walk_progress.specs.Progress.{Counts, noCounts, countsWith, countsMore, outcomeAt, roomWith, probesSo, ended, onward}
 use Rattle.walk_progress.proofs.Progress.{counts-same, outcome-same, onward-silent, over-placed, room-start}
 use Rattle.walk_rounds.specs.declared.End.{End}

@@ -11,7 +11,7 @@ ghost use Rattle.query_alone.specs.Others.{RunsPlaced, Walked, FoundAfte
 ghost use Rattle.walk_tally.specs.Tally.{undoubled};
 use first_checks::Checked;
 use query::Outcome;
-use query_difference::Kept;
+use row_fill::Kept;
 use walk_rounds::End;
 use walk_write::State;
 

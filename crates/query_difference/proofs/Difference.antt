@@ -14,9 +14,11 @@ use Rattle.model.proofs.Tests.{both, lt-or-le, eq-or-ne}
 use Rattle.model.specs.Alone.{without}
 use Rattle.model.proofs.Alone.{without-held, without-new}
 use Rattle.model.specs.Certificate.{Part, answer, gap, firstOf, lastOf, answersOf, Covers}
-use Rattle.model.specs.Rows.{Rise, rise-nil, rise-cons}
+use Rattle.model.specs.Rows.{Rise}
 use Rattle.model.specs.Runs.{from, rank, holds, pastBin}
-use Rattle.query_difference.specs.Gaps.{passedOver, inGaps}
+use Rattle.insertion_rank.proofs.Passed.{passed-nil, passed-same, passed-other, passed-above}
+use Rattle.insertion_rank.specs.Passed.{passedOver}
+use Rattle.query_difference.specs.Gaps.{inGaps}
 
 -- ---- what is no answer
 
@@ -75,31 +77,17 @@ without-above v answers (x ∷ s) h r =
     (λ q. without-new (v ∷ answers) x s (h ∙ q) ∙ (ap (λ l. x ∷ l) i ∙ sym (without-new answers x s q)))
     (both (holds x answers))
 
-above : {v a x : ℕ} {s : List ℕ} → Rise a (x ∷ s) → v < x → Rise (suc v) (x ∷ s)
-above r h = rise-cons h (rise-head-bin r) (rise-tail r)
-
--- A list that rises from an answer on rises, past it, from the next bin on, and of it only that answer is gone.
-passed-rise : (v : ℕ) (s : List ℕ) → Rise v s → Rise (suc v) (passedOver v s)
-unfolding passedOver
-passed-rise v [] r = rise-nil
-passed-rise v (x ∷ s) r =
-    let l = rise-least r (List·Memᴰ·head refl) in
-    ⊎-elim
-    (λ (e : x ≡ v). rw (passedOver, eq-eqb x v e) (rw e at (rise-tail r)))
-    (λ (e : x ≢ v). rw (passedOver, ne-eqb x v e) (above r (omega arith)))
-    (eq-or-ne x v)
-
+-- past an answer only that is gone of a list that rises from it on
 without-answer : (v : ℕ) (answers s : List ℕ) → Rise v s → without answers (passedOver v s) ≡ without (v ∷ answers) s
-unfolding passedOver without
-without-answer v answers [] r = refl
+unfolding without
+without-answer v answers [] r = ap (without answers) (passed-nil v)
 without-answer v answers (x ∷ s) r =
-    let l = rise-least r (List·Memᴰ·head refl) in
     ⊎-elim
     (λ (e : x ≡ v).
-    rw (passedOver, eq-eqb x v e, without-held (v ∷ answers) x s (holds-here x v answers e)) (sym (without-above v answers s (omega arith) (rise-tail r))))
+    rw (passed-same v x s e, without-held (v ∷ answers) x s (holds-here x v answers e)) (sym (without-above v answers s (omega arith) (rise-tail r))))
     (λ (e : x ≢ v).
-    let q : Rise (suc v) (x ∷ s) = above r (omega arith) in
-    rw (passedOver, ne-eqb x v e) (sym (without-above v answers (x ∷ s) (omega arith) q)))
+    let q : Rise (suc v) (x ∷ s) = rw (passed-other v x s e) at (passed-above v (x ∷ s) r) in
+    rw (passed-other v x s e) (sym (without-above v answers (x ∷ s) (omega arith) q)))
     (eq-or-ne x v)
 
 -- ---- the parts
@@ -115,4 +103,4 @@ gaps-without b (gap f l m ∷ ps) s c r =
     rw (gaps-without (suc l) ps (from (suc l) s) (covers-rest c) (rise-from (suc l) s r)) (sym (without-below ps (covers-rest c) s))
 gaps-without b (answer v m ∷ ps) s c r =
     let q : Rise v s = rw (← (covers-first c)) at r in
-    gaps-without (suc v) ps (passedOver v s) (covers-rest c) (passed-rise v s q) ∙ without-answer v (answersOf ps) s q
+    gaps-without (suc v) ps (passedOver v s) (covers-rest c) (passed-above v s q) ∙ without-answer v (answersOf ps) s q

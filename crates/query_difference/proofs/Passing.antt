@@ -1,12 +1,10 @@
 -- A run passed over along the parts of a certificate: its bins up to a gap's last copied one by one, an answer's bin passed over, and what is due from the
 -- next part on. Assumes nothing.
 use Prim.Native.Nat.{ℕ, suc, _+_, _≤_, _<_}
-use borrow.Author.Tests.{eq-eqb, ne-eqb}
 use lib.ListN.{length, getD, take, drop, set, drop-of-length-le}
 use lib.Seq.{drop-cons}
 use mathlib.Core.List.{List, [], _∷_, _++_}
-use mathlib.Core.Logic.{_≢_}
-use mathlib.Core.Path.{_≡_, refl, sym, _∙_}
+use mathlib.Core.Path.{_≡_, refl, sym, ap, _∙_}
 use native.Mathlib.Numerals.{add-one}
 use native.Mathlib.Omega.{arith}
 use Rattle.field_read.specs.Held.{partsHeld}
@@ -15,13 +13,16 @@ use Rattle.field_read.specs.declared.Part as code
 use Rattle.field_read.specs.declared.Part.the-variants.{Answer, Gap}
 use Rattle.model.proofs.From.{from-nil, from-pass, from-stop, rank-nil, rank-pass, rank-stop}
 use Rattle.model.specs.Certificate.{Part, answer, gap}
-use Rattle.model.specs.Runs.{from, rank}
-use Rattle.query_difference.specs.Gaps.{passedOver, inGaps, Keeps, Copies}
+use Rattle.model.specs.Runs.{from, rank, one}
+use Rattle.insertion_rank.proofs.Passed.{passed-nil, drop-after}
+use Rattle.insertion_rank.specs.Passed.{beginsWith, passedOver}
+use Rattle.row_fill.proofs.Keeping.{Keeping, keeping-start, keeping-end, keeping-full, keeping-put, keeping-on, keeping-cut}
+use Rattle.row_fill.specs.Keeps.{Keeps}
+use Rattle.row_fill.specs.declared.Kept.the-variants as Kept
+use Rattle.row_fill.specs.declared.Kept.the-variants.{All}
+use Rattle.query_difference.specs.Gaps.{inGaps, Copies}
 use Rattle.query_difference.specs.declared.Copied.{Copied}
 use Rattle.query_difference.specs.declared.Copied.the-variants.{On, Full}
-use Rattle.query_difference.specs.declared.Kept.the-variants as Kept
-use Rattle.query_difference.specs.declared.Kept.the-variants.{All}
-use Rattle.query_difference.proofs.Keeping.{Keeping, keeping-start, keeping-end, keeping-full, keeping-put, keeping-on, keeping-cut}
 
 -- ---- the bins up to a gap's last
 
@@ -71,21 +72,6 @@ module _ {run : List ℕ} {last place : ℕ} {row now : List ℕ} {count at n : 
           kept = keeping-put (due l) (omega arith);
         })
 
--- ---- an answer's bin
-
-module _ (run : List ℕ) (place value : ℕ) where
-  pub passed-here : place < length run → getD run place 0 ≡ value → drop (place + 1) run ≡ passedOver value (drop place run)
-  unfolding passedOver
-  passed-here h e = rw (add-one place, drop-cons run place 0 h, passedOver, eq-eqb (getD run place 0) value e)
-
-  pub passed-other : place < length run → getD run place 0 ≢ value → drop place run ≡ passedOver value (drop place run)
-  unfolding passedOver
-  passed-other h e = rw (drop-cons run place 0 h, passedOver, ne-eqb (getD run place 0) value e)
-
-  pub passed-end : length run ≤ place → drop place run ≡ passedOver value (drop place run)
-  unfolding passedOver
-  passed-end h = rw (drop-of-length-le run h)
-
 -- ---- the parts
 
 -- what is due from a place of the run and an offset of the certificate on, and a pass that has come there
@@ -103,10 +89,10 @@ unfolding inGaps
 none-due ps s e = rw e
 
 run-passed : (ps : List Part) → inGaps ps [] ≡ []
-unfolding inGaps passedOver
+unfolding inGaps
 run-passed [] = refl
 run-passed (gap f l m ∷ ps) = rw (rank-nil (suc l), from-nil (suc l)) (run-passed ps)
-run-passed (answer v m ∷ ps) = run-passed ps
+run-passed (answer v m ∷ ps) = rw (passed-nil v) (run-passed ps)
 
 gap-due : (ps qs : List Part) {part : code.Part} {first last named : ℕ} (s : List ℕ) → ps ≡ partOf part ∷ qs → part ≡ Gap first last named
     → inGaps ps s ≡ upTo last s ++ inGaps qs (from (suc last) s)
@@ -147,7 +133,8 @@ module _ {run certificate row now : List ℕ} {place at count : ℕ} (k : Passin
           let d : Copies run (drop place run) last (take count now) now row′ Full = rw e at c in
           keeping-cut (upTo last (drop place run)) later-due row′ kept-gap d
 
-    pub passing-answer : {value named p : ℕ} → part ≡ Answer value named → drop p run ≡ passedOver value (drop place run)
+    pub passing-answer : {value named p : ℕ} → part ≡ Answer value named → p ≡ place + one (beginsWith value (drop place run))
         → Passing run certificate row now p next count
-    passing-answer g d =
+    passing-answer {value} g e =
+        let d = ap (λ i. drop i run) e ∙ drop-after value run place in
         record { kept = rw d (rw (answer-due (partsHeld (drop at certificate)) (partsHeld (drop next certificate)) (drop place run) h g) at (k .kept)) }

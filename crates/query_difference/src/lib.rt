@@ -1,18 +1,13 @@
 // The bins of a run that lie in the gaps of a certificate (docs/SPECIFICATION.md, 'What one run found alone'): one pass over the run and the certificate's
 // fields together.
-ghost use mathlib.Core.Path.{_≡_};
 ghost use Prim.Native.Nat.{_≤_};
 ghost use lib.ListN.{length, take, drop};
 ghost use Rattle.field_read.specs.Held.{partsHeld};
-ghost use Rattle.query_difference.specs.Gaps.{passedOver, inGaps, Keeps, Copies};
+ghost use Rattle.row_fill.specs.Keeps.{Keeps};
+ghost use Rattle.query_difference.specs.Gaps.{inGaps, Copies};
 use field_read::Field;
 use field_read::Part;
-
-// How many were written; or one more was due in a full buffer.
-pub enum Kept {
-    All(usize),
-    Full,
-}
+use row_fill::Kept;
 
 // The place in the run and the count of what is written after a copy; or one more was due in a full buffer.
 enum Copied {
@@ -48,18 +43,6 @@ fn copy_to(run: &[u32], place: usize, last: u32, answers: &mut [u32], count: usi
     }
 }
 
-// The place after an answer's bin, if the run has it at `place`.
-fn pass_answer(run: &[u32], place: usize, value: u32) -> usize
-    ensures { λ r. ⌜ drop r (now (run .entry)) ≡ passedOver value (drop place (now (run .entry))) ⌝ }
-{
-    if place < run.len() {
-        if run[place] == value {
-            return place + 1;
-        }
-    }
-    place
-}
-
 // Writes the bins in the gaps to the answers, in the order of the run. What follows of the certificate after the run's last bin is not read.
 pub fn in_gaps(run: &[u32], certificate: &[u8], answers: &mut [u32]) -> Kept
     ensures { λ r. ⌜ Keeps (inGaps (partsHeld (now (certificate .entry))) (now (run .entry))) (now (answers .entry)) (now (answers .exit)) r ⌝ }
@@ -85,7 +68,7 @@ pub fn in_gaps(run: &[u32], certificate: &[u8], answers: &mut [u32]) -> Kept
                 count = n;
             }
             Part::Answer { value, mask: _ } => {
-                place = pass_answer(run, place, value);
+                place = insertion_rank::place_after(run, place, value);
             }
         }
         at = next;

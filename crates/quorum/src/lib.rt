@@ -6,7 +6,8 @@ ghost use Rattle.model.specs.Refusals.{query, queryWeighted, check, checkChosen
 ghost use Rattle.bound.specs.Bound.{probeBound, probeBoundChosen};
 ghost use Rattle.checker.specs.Verdicts.{verdictIs};
 ghost use Rattle.lcov_form.specs.Reading.{lcovRun};
-ghost use Rattle.quorum_lcov.specs.Rows.{readingRow};
+ghost use Rattle.pair_model.specs.Pair.{pair};
+ghost use Rattle.quorum_filled.specs.Rows.{filledRow};
 ghost use Rattle.quorum_many.specs.Rows.{manyRow};
 ghost use Rattle.quorum_rows.specs.Outcomes.{outcomeRow};
 ghost use Rattle.quorum.specs.Results.{verdictRow, boundRow, PartRow};
@@ -222,9 +223,23 @@ pub extern "C" fn quorum_lcov_run(
     run: &mut [u32],
     result: &mut [u64; 3],
 )
-    ensures row { λ r. ⌜ now (result .exit) ≡ readingRow (lcovRun (now (file .entry)) section (now (run .entry)) .check) (lcovRun (now (file .entry)) section (now (run .entry)) .count) ⌝ }
+    ensures row { λ r. ⌜ now (result .exit) ≡ filledRow (lcovRun (now (file .entry)) section (now (run .entry)) .check) (lcovRun (now (file .entry)) section (now (run .entry)) .count) ⌝ }
     ensures written { λ r. ⌜ now (run .exit) ≡ lcovRun (now (file .entry)) section (now (run .entry)) .row ⌝ }
 {
     let outcome = lcov_run::lcov_run(file, section, run);
-    quorum_lcov::put_reading(outcome, result);
+    quorum_filled::put_filled(outcome, result);
+}
+
+#[no_mangle]
+pub extern "C" fn quorum_pair(
+    numbers: &[u32],
+    ends: &[u32],
+    answers: &mut [u32],
+    result: &mut [u64; 3],
+)
+    ensures row { λ r. ⌜ now (result .exit) ≡ filledRow (pair (now (numbers .entry)) (now (ends .entry)) (now (answers .entry)) .check) (pair (now (numbers .entry)) (now (ends .entry)) (now (answers .entry)) .count) ⌝ }
+    ensures answered { λ r. ⌜ now (answers .exit) ≡ pair (now (numbers .entry)) (now (ends .entry)) (now (answers .entry)) .row ⌝ }
+{
+    let outcome = pair::pair(numbers, ends, answers);
+    quorum_filled::put_filled(outcome, result);
 }

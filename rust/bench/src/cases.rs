@@ -1,6 +1,6 @@
 //! The cases of the tables: a shape of input, a number of runs and a
 //! threshold, perhaps with zeros before each run or with weights, or asked about the
-//! first run; or a tracefile.
+//! first run; or a pair of runs; or a tracefile.
 
 use crate::inputs::{self, Input, NUMBERS};
 use crate::tracefiles;
@@ -116,6 +116,24 @@ impl fmt::Display for Alone {
     }
 }
 
+/// One line of the table about what both of two runs hold.
+/// [`Display`](fmt::Display) gives its name, as `pair, dense`.
+#[derive(Clone, Copy)]
+pub struct Pair(pub Case);
+
+impl Pair {
+    /// Two runs with as many numbers as are allowed, none of them a 0.
+    pub fn input(&self) -> Input {
+        self.0.input(NUMBERS).raised()
+    }
+}
+
+impl fmt::Display for Pair {
+    fn fmt(&self, f: &mut fmt::Formatter<'_>) -> fmt::Result {
+        write!(f, "pair, {}", self.0.shape)
+    }
+}
+
 /// A shape's name, its input of so many runs and numbers, and the numbers of runs
 /// that it is tried with.
 type Shape = (&'static str, fn(usize, usize) -> Input, &'static [usize]);
@@ -156,6 +174,23 @@ const ALONE: [Shape; 4] = [
     ("sparse", inputs::sparse, &[2, 8, 64]),
     ("nearly disjoint", inputs::nearly_disjoint, &[2, 8, 64]),
     ("blocks", inputs::blocks, &[2, 8, 64]),
+];
+
+const PAIRS: [Shape; 6] = [
+    ("1,024 numbers against the rest", inputs::skewed, &[2]),
+    (
+        "equal lengths interleaved, none in common",
+        inputs::interleaved,
+        &[2],
+    ),
+    (
+        "equal lengths, random, none in common",
+        inputs::disjoint,
+        &[2],
+    ),
+    ("dense", inputs::half_dense, &[2]),
+    ("equal runs", inputs::equal, &[2]),
+    ("one block after the other", inputs::blocks_in_order, &[2]),
 ];
 
 /// The cases of the first table, in which queries are timed.
@@ -205,6 +240,11 @@ pub fn alone() -> Vec<Alone> {
         _ => all_thresholds(k - 1),
     };
     cases(&ALONE, of_others).into_iter().map(Alone).collect()
+}
+
+/// The cases of the seventh table, in which is timed what both of two runs hold.
+pub fn pairs() -> Vec<Pair> {
+    cases(&PAIRS, |k| vec![k]).into_iter().map(Pair).collect()
 }
 
 fn cases(shapes: &[Shape], thresholds: fn(usize) -> Vec<usize>) -> Vec<Case> {
@@ -263,6 +303,8 @@ pub struct Selected {
     /// Those of the sixth table.
     pub alone: Vec<Alone>,
     /// Those of the seventh table.
+    pub pairs: Vec<Pair>,
+    /// Those of the eighth table.
     pub read: Vec<tracefiles::Case>,
 }
 
@@ -277,6 +319,7 @@ pub fn select(substring: &str) -> Result<Selected, String> {
         half_zeros: having(substring, half_zeros()),
         weighted: having(substring, weighted()),
         alone: having(substring, alone()),
+        pairs: having(substring, pairs()),
         read: having(substring, tracefiles::cases()),
     };
     let Selected {
@@ -284,11 +327,12 @@ pub fn select(substring: &str) -> Result<Selected, String> {
         half_zeros,
         weighted,
         alone,
+        pairs,
         read,
         ..
     } = &selected;
-    let is_none = queried.is_empty() && half_zeros.is_empty() && alone.is_empty();
-    if is_none && weighted.is_empty() && read.is_empty() {
+    let is_none = queried.is_empty() && half_zeros.is_empty() && weighted.is_empty();
+    if is_none && alone.is_empty() && pairs.is_empty() && read.is_empty() {
         return Err(format!(
             "no case has `{substring}` in its name; there are\n{}",
             all_names().join("\n")
@@ -310,6 +354,7 @@ fn all_names() -> Vec<String> {
         names(&half_zeros()),
         names(&weighted()),
         names(&alone()),
+        names(&pairs()),
         names(&tracefiles::cases()),
     ]
     .concat()
@@ -331,7 +376,7 @@ mod tests {
         let counts = [&all.queried, &all.checked, &all.asked_together].map(Vec::len);
         assert_eq!(counts, [46, 12, 4]);
         assert_eq!((all.half_zeros.len(), all.weighted.len()), (4, 114));
-        assert_eq!(all.alone.len(), 36);
+        assert_eq!((all.alone.len(), all.pairs.len()), (36, 6));
         assert_eq!(
             names(&all.queried)[..3],
             ["dense k=2 t=1", "dense k=2 t=2", "dense k=8 t=1"]
@@ -377,6 +422,15 @@ mod tests {
         let alone = select("alone, sparse k=2").unwrap();
         assert_eq!(names(&alone.alone), ["alone, sparse k=2 t=1"]);
         assert!(alone.queried.is_empty() && alone.weighted.is_empty());
+        let pairs = select("none in common").unwrap();
+        assert_eq!(
+            names(&pairs.pairs),
+            [
+                "pair, equal lengths interleaved, none in common",
+                "pair, equal lengths, random, none in common"
+            ]
+        );
+        assert!(pairs.queried.is_empty() && pairs.alone.is_empty());
         let one = select("skewed k=2 t=2").unwrap();
         assert_eq!(names(&one.queried), ["skewed k=2 t=2"]);
         assert!(one.checked.is_empty() && one.asked_together.is_empty());
@@ -428,6 +482,7 @@ mod tests {
             names(&half_zeros()),
             names(&weighted()),
             names(&alone()),
+            names(&pairs()),
             TRACEFILES.map(str::to_string).to_vec(),
         ];
         assert!(lines.eq(all.concat()));
@@ -444,6 +499,15 @@ mod tests {
             if weighted.weights == Weights::Ones {
                 assert_eq!(weighted.wanted() as usize, weighted.case.threshold);
             }
+        }
+    }
+
+    #[test]
+    fn pairs_of_runs() {
+        for pair in pairs() {
+            let Input { numbers, ends } = pair.input();
+            assert_eq!((numbers.len(), ends.len()), (NUMBERS, 2), "{pair}");
+            assert!(!numbers.contains(&0), "{pair}");
         }
     }
 

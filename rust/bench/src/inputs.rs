@@ -70,10 +70,19 @@ fn rising(start: u32, count: usize, mut step: impl FnMut() -> usize) -> Vec<u32>
 
 /// Each run holds each number of one range in nine cases out of ten.
 pub fn dense(k: usize, count: usize) -> Input {
-    let mut random = Random(1);
+    lacking(k, count, Random(1), 10)
+}
+
+/// Each run holds each number of one range in one case out of two.
+pub fn half_dense(k: usize, count: usize) -> Input {
+    lacking(k, count, Random(8), 2)
+}
+
+/// Each run lacks each number of one range once in `n` cases.
+fn lacking(k: usize, count: usize, mut random: Random, n: usize) -> Input {
     let mut step = || {
         let mut step = 1;
-        while random.one_in(10) {
+        while random.one_in(n) {
             step += 1;
         }
         step
@@ -113,12 +122,51 @@ pub fn nearly_disjoint(k: usize, count: usize) -> Input {
     Input::new(runs, count)
 }
 
+/// Each number of one range is in one run, chosen at random, and the runs are
+/// equally long.
+pub fn disjoint(k: usize, count: usize) -> Input {
+    let mut random = Random(9);
+    let length = count / k;
+    let mut run_of: Vec<usize> = (0..k * length).map(|x| x % k).collect();
+    for x in 1..run_of.len() {
+        run_of.swap(x, random.below(x + 1));
+    }
+    let mut runs = vec![Vec::with_capacity(length); k];
+    for (x, i) in (0..).zip(run_of) {
+        runs[i].push(x);
+    }
+    Input::new(runs, k * length)
+}
+
+/// Each number of one range is in one run, one after another.
+pub fn interleaved(k: usize, count: usize) -> Input {
+    Input::of_equal_runs(k, count, |i, length| rising(i as u32, length, || k))
+}
+
+/// All runs hold the same numbers.
+pub fn equal(k: usize, count: usize) -> Input {
+    Input::of_equal_runs(k, count, |_, length| {
+        let mut random = Random(10);
+        rising(0, length, || 1 + random.below(3))
+    })
+}
+
 /// Each run has a range of its own, the first run the highest, so that the
 /// row of numbers is not in order by itself.
 pub fn blocks(k: usize, count: usize) -> Input {
+    in_blocks(k, count, |i| k - 1 - i)
+}
+
+/// The same with the first run the lowest.
+pub fn blocks_in_order(k: usize, count: usize) -> Input {
+    in_blocks(k, count, |i| i)
+}
+
+/// Each run has a range of its own, and `place` tells which.
+fn in_blocks(k: usize, count: usize, place: impl Fn(usize) -> usize) -> Input {
     let mut random = Random(4);
     Input::of_equal_runs(k, count, |i, length| {
-        let start = (k - 1 - i) * 4 * length;
+        let start = place(i) * 4 * length;
         rising(start as u32, length, || 1 + random.below(3))
     })
 }
@@ -147,15 +195,48 @@ mod tests {
     /// As many numbers as are asked for, or as many as make equal runs.
     #[test]
     fn counts() {
-        for (k, equal) in [(8, 1_000), (60, 960), (64, 960)] {
-            for shape in [dense, sparse, blocks] {
+        for (k, equally_long) in [(8, 1_000), (60, 960), (64, 960)] {
+            for shape in [
+                dense,
+                half_dense,
+                sparse,
+                disjoint,
+                interleaved,
+                equal,
+                blocks,
+                blocks_in_order,
+            ] {
                 let Input { numbers, ends } = shape(k, 1_000);
-                assert_eq!((numbers.len(), ends.len()), (equal, k));
+                assert_eq!((numbers.len(), ends.len()), (equally_long, k));
                 assert!(ends.iter().zip(1..).all(|(&end, i)| end == i * ends[0]));
             }
             let Input { numbers, ends } = nearly_disjoint(k, 1_000);
             assert_eq!((numbers.len(), ends.len()), (1_000, k));
         }
+    }
+
+    /// How many numbers two runs have in common, and whether the first is below the
+    /// second or the second below the first.
+    #[test]
+    fn two_runs() {
+        let seen = |shape: fn(usize, usize) -> Input| {
+            let input = shape(2, 10_000).raised();
+            let [first, second, ..] = split_runs(&input.numbers, &input.ends);
+            assert_eq!((first.len(), second.len()), (5_000, 5_000));
+            let is_held = |x: &&u32| second.binary_search(x).is_ok();
+            let common = first.iter().filter(is_held).count();
+            let below = |low: &[u32], high: &[u32]| low.last() < high.first();
+            (common, below(first, second), below(second, first))
+        };
+        assert_eq!(seen(equal), (5_000, false, false));
+        assert_eq!(seen(disjoint), (0, false, false));
+        assert_eq!(seen(interleaved), (0, false, false));
+        assert_eq!(seen(blocks_in_order), (0, true, false));
+        assert_eq!(seen(blocks), (0, false, true));
+        let (common, ..) = seen(half_dense);
+        assert!((2_400..2_600).contains(&common), "{common}");
+        let Input { numbers, .. } = interleaved(2, 10);
+        assert_eq!(numbers, [0, 2, 4, 6, 8, 1, 3, 5, 7, 9]);
     }
 
     #[test]

@@ -2,9 +2,10 @@
 //! merges with counting and a sort with counting, a check of the walk's own
 //! certificate beside the query, many questions in one call beside as many calls,
 //! the same with as many zeros before the bins beside the bins alone, queries and
-//! checks by weight beside those without weights, and what the first run holds alone
-//! beside a query of the other runs; and on tracefiles of 100,000,000 bytes beside the
-//! same reader in Rust.
+//! checks by weight beside those without weights, what the first run holds alone
+//! beside a query of the other runs, and what both of two runs hold beside a query of
+//! them and a merge; and on tracefiles of 100,000,000 bytes beside the same reader in
+//! Rust.
 //!
 //!     cargo run --release -p bench -- [--only SUBSTRING] [--reps N] [--help]
 //!
@@ -21,6 +22,8 @@ mod lcov;
 mod many;
 mod options;
 mod ordered;
+mod pairing;
+mod partition;
 mod querying;
 mod reading;
 mod row;
@@ -66,6 +69,7 @@ fn main() -> ExitCode {
     tables.print(&selected.half_zeros, repetitions, zeros::report);
     tables.print(&selected.weighted, repetitions, weighing::report);
     tables.print(&selected.alone, repetitions, alone::report);
+    tables.print(&selected.pairs, repetitions, pairing::report);
     tables.print(&selected.read, repetitions, reading::report);
     ExitCode::SUCCESS
 }

@@ -9,12 +9,13 @@ Times the library on 1,048,576 numbers beside other ways to the answers, checks
 of certificates beside queries, many questions in one call beside as many calls
 and with zeros before the bins beside the bins alone, queries and checks by weight
 beside those without weights, what the first run holds alone beside a query of the
-other runs, and the reading of tracefiles of 100,000,000 bytes.
-Standard output has the seven tables.
+other runs, what both of two runs hold beside a query of them, and the reading of
+tracefiles of 100,000,000 bytes. Standard output has the eight tables.
 
   --only SUBSTRING  measure the cases whose name, as `dense k=8 t=2`,
                     `half zeros, dense k=64 t=32`, `weights all 1, dense k=8 wanted=2`,
-                    `alone, dense k=8 t=2` or `tracefile, one section`, has this
+                    `alone, dense k=8 t=2`, `pair, dense` or `tracefile, one section`,
+                    has this
   --reps N          repetitions, 1 or more, of which the median counts; 9 if not given
   --help            print this
 
@@ -80,7 +81,18 @@ Columns of the sixth table, what the first run holds and fewer than t of the oth
   alone/same      the same for the library's own way in Rust, whose walk writes the
                   answers of the others too
 
-Columns of the seventh table, the last section of a tracefile read as a run:
+Columns of the seventh table, what both of two runs hold:
+  case            shape of the input
+  first           numbers of the first run
+  second          numbers of the second run
+  answers         bins that both hold
+  pair ms         time of the pair, in milliseconds
+  query ms        time of the query of both runs with threshold 2, in milliseconds
+  pair/query      time of the pair divided by that of the query
+  pair/same       the same for the library's own way in Rust
+  pair/merge      the same for a merge of the two runs after the same first checks
+
+Columns of the eighth table, the last section of a tracefile read as a run:
   case            which tracefile: one of many sections, or of one with all its records
   sections        number of sections
   numbers         numbers of the run

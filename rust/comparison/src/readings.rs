@@ -1,12 +1,11 @@
 //! Tracefiles read on both sides, with all that is returned and written.
 
-use crate::lent::{noise, Lent};
+use crate::listing::{rooms_near, row_of, Listing, Rows};
 use crate::met::Met;
 use crate::printed::front;
-use crate::question::refusal_of;
 use crate::tracefiles::sections_of;
-use quorum::StoppedRun;
-use reference::Reading;
+use quorum::{Refusal, StoppedRun};
+use std::fmt;
 
 /// How a reading ended.
 #[derive(Clone, Copy, Debug, PartialEq, Eq, PartialOrd, Ord)]
@@ -39,35 +38,54 @@ pub const ENDS: [End; 7] = [
 ];
 
 impl End {
-    /// The end of a reading; `is_opened` says whether the file has the section's
-    /// opening line.
-    fn of(reading: Reading, is_opened: bool) -> End {
-        match (reading.refusal.map(|refusal| refusal.number), is_opened) {
-            (None, _) if reading.written > 0 => End::Numbers,
-            (None, _) => End::Nothing,
-            (Some(4), _) => End::NotRising,
-            (Some(5), _) => End::Full,
-            (Some(15), _) => End::BadRecord,
+    /// The end of a reading that returns this row; `is_opened` says whether the file
+    /// has the section's opening line.
+    fn of([refusal, _, written]: [u64; 3], is_opened: bool) -> End {
+        match (refusal, is_opened) {
+            (0, _) if written > 0 => End::Numbers,
+            (0, _) => End::Nothing,
+            (4, _) => End::NotRising,
+            (5, _) => End::Full,
+            (15, _) => End::BadRecord,
             (_, true) => End::NoEnd,
             (_, false) => End::NoSection,
         }
     }
 }
 
-/// The reference's reading as the row of the C interface.
-pub fn row_of(reading: Reading) -> [u64; 3] {
-    match reading.refusal.map(refusal_of) {
-        None => [0, 0, reading.written],
-        Some(refusal) => [refusal.number, refusal.place, reading.written],
+/// A section of a file.
+#[derive(Clone, Copy)]
+pub struct Section<'a> {
+    /// The file.
+    pub file: &'a [u8],
+    /// The index of the section.
+    pub index: usize,
+}
+
+impl fmt::Debug for Section<'_> {
+    fn fmt(&self, f: &mut fmt::Formatter<'_>) -> fmt::Result {
+        write!(f, "section {}, {}", self.index, front(self.file))
     }
 }
 
-/// The reference's reading in the terms of `quorum`.
-pub fn result_of(reading: Reading) -> Result<usize, StoppedRun> {
-    let written = reading.written as usize;
-    match reading.refusal.map(refusal_of) {
-        None => Ok(written),
-        Some(refusal) => Err(StoppedRun { refusal, written }),
+impl Listing for Section<'_> {
+    type Stopped = StoppedRun;
+
+    fn stopped(refusal: Refusal, written: usize) -> StoppedRun {
+        StoppedRun { refusal, written }
+    }
+
+    fn expect(self, row: &mut [u32]) -> [u64; 3] {
+        let reading = reference::lcov_run(self.file, self.index, row);
+        row_of(reading.refusal, reading.written)
+    }
+
+    fn call(self, row: &mut [u32]) -> Result<usize, StoppedRun> {
+        quorum::lcov_run(self.file, self.index, row)
+    }
+
+    fn call_row(self, row: &mut [u32]) -> [u64; 3] {
+        quorum::ffi::lcov_run(self.file, self.index, row)
     }
 }
 
@@ -79,10 +97,7 @@ const AFTER: &[u8] = b"7,1\nend_of_record\nSF:after\nDA:1,1\nend_of_record\n";
 /// Reads on both sides, compares, and counts what was seen.
 #[derive(Default)]
 pub struct Comparer {
-    expected: Lent<u32>,
-    found: Lent<u32>,
-    /// The file between other bytes.
-    lent: Vec<u8>,
+    rows: Rows,
     /// How the readings ended, with the places of refusals, else the counts
     /// written.
     pub seen: Met<End>,
@@ -94,52 +109,22 @@ impl Comparer {
     /// Reads every section of the file up to two past the last, into rows of
     /// every kind of length.
     pub fn compare(&mut self, seed: u64, file: &[u8]) {
-        self.lent = [BEFORE, file, AFTER].concat();
+        let lent = [BEFORE, file, AFTER].concat();
+        let file = &lent[BEFORE.len()..][..file.len()];
         self.files += 1;
         let sections = sections_of(file);
-        for section in (0..sections + 2).chain([usize::MAX]) {
+        for index in (0..sections + 2).chain([usize::MAX]) {
+            let section = Section { file, index };
             let enough = file.len() / 7;
-            let end = self.compare_room(seed, file, section, enough);
-            let is_full = End::of(end, section < sections) == End::Full;
-            assert!(!is_full, "seed {seed}: section {section}, {}", front(file));
-            let exact = end.written as usize;
-            let mut rooms = vec![0, exact.saturating_sub(1), exact, exact + 1, enough + 9];
-            rooms.dedup();
-            for room in rooms {
-                let reading = self.compare_room(seed, file, section, room);
-                let [refusal, place, written] = row_of(reading);
+            let row = self.rows.compare(seed, section, enough);
+            let is_full = End::of(row, index < sections) == End::Full;
+            assert!(!is_full, "seed {seed}: {section:?}");
+            for room in rooms_near(row[2] as usize, enough) {
+                let row = self.rows.compare(seed, section, room);
+                let [refusal, place, written] = row;
                 let place = if refusal == 0 { written } else { place };
-                let end = End::of(reading, section < sections);
-                self.seen.count(end, place);
+                self.seen.count(End::of(row, index < sections), place);
             }
         }
-    }
-
-    /// Compares what both sides return and the whole of both rows with their
-    /// margins, by the wrapper and by the C interface.
-    fn compare_room(&mut self, seed: u64, file: &[u8], section: usize, room: usize) -> Reading {
-        let context = || {
-            format!(
-                "seed {seed}: section {section}, room {room}, {}",
-                front(file)
-            )
-        };
-        let fill = |row: &mut Lent<u32>| row.fill(room, |i| noise(seed, i) as u32);
-        let lent = &self.lent[BEFORE.len()..][..file.len()];
-        fill(&mut self.expected);
-        let expected = reference::lcov_run(file, section, self.expected.lend());
-
-        fill(&mut self.found);
-        let result = quorum::lcov_run(lent, section, self.found.lend());
-        assert_eq!(result, result_of(expected), "{}", context());
-        let place = self.found.difference(&self.expected);
-        assert_eq!(place, None, "run, {}", context());
-
-        fill(&mut self.found);
-        let row = quorum::ffi::lcov_run(lent, section, self.found.lend());
-        assert_eq!(row, row_of(expected), "{}", context());
-        let place = self.found.difference(&self.expected);
-        assert_eq!(place, None, "run, {}", context());
-        expected
     }
 }

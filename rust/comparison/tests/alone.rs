@@ -3,7 +3,9 @@
 //! runs.
 
 use comparison::alone::{any_runs_and_first, compare_random, Alone};
-use comparison::broken::{any_broken_rows, any_limits, any_small, any_threshold, noise_rows};
+use comparison::broken::{
+    any_broken_rows, any_limits, any_small, any_threshold, faulty_rows, noise_rows,
+};
 use comparison::cuts::Cuts;
 use comparison::many::ask_one;
 use comparison::question::{
@@ -214,34 +216,16 @@ fn every_combination_of_faults() {
     for k in [0, 1, 2, 3, 63, 64, 65, 66] {
         let good = k as u32 / 2;
         for threshold in [good.max(1), 0, k as u32, k as u32 + 1, M] {
-            for end in 0..3 {
-                // In no run, in the first, in the last.
-                for rising in [None, Some(1), Some(2 * k.max(1) - 1)] {
-                    let (mut numbers, mut ends) = lay_out(&vec![[3, 9]; k]);
-                    if end == 1 && k > 1 {
-                        ends[k - 1] = 1;
-                    }
-                    if end == 2 {
-                        numbers.push(12);
-                    }
-                    if let Some(place) = rising.filter(|_| k > 0) {
-                        numbers[place] = 3;
-                    }
-                    let question = Alone::new(&numbers, &ends, threshold);
-                    let place = k as u64;
-                    let refusal = if !(1..=MAX_RUNS).contains(&k) {
-                        Some((1, place))
-                    } else if threshold == 0 || threshold as usize > k - 1 {
-                        Some((2, threshold.into()))
-                    } else if end == 1 {
-                        Some((3, place - 1))
-                    } else if end == 2 {
-                        Some((3, place))
-                    } else {
-                        rising.map(|place| (4, place as u64))
-                    };
-                    expect(question, refusal);
-                }
+            for ((numbers, ends), refusal) in faulty_rows(k) {
+                let question = Alone::new(&numbers, &ends, threshold);
+                let refusal = if !(1..=MAX_RUNS).contains(&k) {
+                    Some((1, k as u64))
+                } else if threshold == 0 || threshold as usize > k - 1 {
+                    Some((2, threshold.into()))
+                } else {
+                    refusal
+                };
+                expect(question, refusal);
             }
         }
     }

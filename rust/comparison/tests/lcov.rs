@@ -1,7 +1,8 @@
 //! Sections of LCOV tracefiles, read on both sides: every section of every file,
 //! into rows of every kind of length.
 
-use comparison::readings::{result_of, Comparer, End, ENDS};
+use comparison::listing::{result_of, row_of};
+use comparison::readings::{Comparer, End, Section, ENDS};
 use comparison::seeds;
 use comparison::tracefiles::{
     all_short_records, all_small_files, any_bytes, bytes_of_the_form, damaged, edge_lines,
@@ -9,7 +10,6 @@ use comparison::tracefiles::{
 };
 use quorum::{enough_answers, enough_bytes, lcov_run, query, Refusal, ENOUGH_PROBES, MAX_NUMBERS};
 use reference::testing::{lcov_instances, Random};
-use reference::Reading;
 use std::collections::BTreeSet;
 
 /// Compares the files of a kind. Each way to end is met so often, and at so many
@@ -43,12 +43,9 @@ fn instances() {
         let file = instance.file.as_bytes();
         comparer.compare(i, file);
         let mut row = vec![7; instance.room];
-        let reading = Reading {
-            written: instance.run.len() as u64,
-            refusal: instance.refusal,
-        };
+        let expected = row_of(instance.refusal, instance.run.len() as u64);
         let result = lcov_run(file, instance.section, &mut row);
-        assert_eq!(result, result_of(reading), "{instance:?}");
+        assert_eq!(result, result_of::<Section>(expected), "{instance:?}");
         let mut expected = instance.run.clone();
         expected.resize(instance.room, 7);
         assert_eq!(row, expected, "{instance:?}");

@@ -6,6 +6,7 @@ use comparison::alone::Alone;
 use comparison::between;
 use comparison::certificates::Task;
 use comparison::many::{self, Call};
+use comparison::pair::{self, Pair};
 use comparison::question::{whole, Asked, Comparer, Limits, Question};
 use comparison::verdicts::{walks_own, Seen};
 use reference::testing::{gap, lay_out, marked, slices, Wanted, M};
@@ -23,6 +24,7 @@ struct Calls {
     single: [Comparer; 2],
     alone: [Comparer; 2],
     many: [many::Comparer; 2],
+    pair: pair::Comparer,
     checked: Seen,
 }
 
@@ -32,13 +34,15 @@ impl Calls {
             single: [Comparer::new(), Comparer::of_rows()],
             alone: [Comparer::new(), Comparer::of_rows()],
             many: [many::Comparer::new(), many::Comparer::of_rows()],
+            pair: pair::Comparer::default(),
             checked: Seen::default(),
         }
     }
 
     /// Compares a question, the same with weights, many questions, what the first
-    /// run holds alone, checks for all runs, by weight and for chosen runs, and parts
-    /// of each run. Returns the refusal of the first checks, which all of these make.
+    /// run holds alone, what the first two both hold, checks for all runs, by weight
+    /// and for chosen runs, and parts of each run. Returns the refusal of the first
+    /// checks, which all of these make.
     fn compare(&mut self, runs: &[Vec<u32>], threshold: u32) -> Option<Refusal> {
         let (numbers, ends) = lay_out(runs);
         let refusal = first_checks(&numbers, &ends, threshold).err();
@@ -59,6 +63,10 @@ impl Calls {
         for comparer in &mut self.alone {
             comparer.compare(0, question, limits);
         }
+        let (numbers, ends) = lay_out(&runs[..runs.len().min(2)]);
+        let pair = Pair::new(&numbers, &ends);
+        self.pair.compare_enough(0, pair);
+        self.pair.compare(0, pair, 1);
         for run in runs {
             for (first, last) in [(0, M), (0, 0), (1, 9), (M, M)] {
                 between::compare(0, run, first, last);

@@ -99,6 +99,15 @@ extern "C" {
         certificate_len: usize,
         result: *mut [u64; 4],
     );
+    fn quorum_pair(
+        numbers: *const u32,
+        numbers_len: usize,
+        ends: *const u32,
+        ends_len: usize,
+        answers: *mut u32,
+        answers_len: usize,
+        result: *mut [u64; 3],
+    );
     fn quorum_between(
         list: *const u32,
         list_len: usize,
@@ -420,6 +429,31 @@ pub fn check_weighted(
             wanted,
             certificate.as_ptr(),
             certificate.len(),
+            &mut result,
+        );
+    }
+    result
+}
+
+/// Returns refusal, place and answers.
+///
+/// ```
+/// let mut answers = [0; 2];
+/// // {7, 9} and {7}.
+/// let row = quorum::ffi::pair(&[7, 9, 7], &[2, 3], &mut answers);
+/// assert_eq!((row, answers), ([0, 0, 1], [7, 0]));
+/// ```
+pub fn pair(numbers: &[u32], ends: &[u32], answers: &mut [u32]) -> [u64; 3] {
+    let mut result = [u64::MAX; 3];
+    // SAFETY: as in `row_of`.
+    unsafe {
+        quorum_pair(
+            numbers.as_ptr(),
+            numbers.len(),
+            ends.as_ptr(),
+            ends.len(),
+            answers.as_mut_ptr(),
+            answers.len(),
             &mut result,
         );
     }

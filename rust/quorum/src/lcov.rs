@@ -1,6 +1,7 @@
 //! Runs from LCOV tracefiles.
 
-use crate::{ffi, Refusal};
+use crate::refusal::tell_count;
+use crate::{ffi, listed, Refusal};
 use std::error::Error;
 use std::fmt;
 
@@ -78,15 +79,8 @@ use std::fmt;
 /// # Ok::<(), Box<dyn std::error::Error>>(())
 /// ```
 pub fn lcov_run(file: &[u8], section: usize, run: &mut [u32]) -> Result<usize, StoppedRun> {
-    let [number, place, written] = ffi::lcov_run(file, section, run);
-    let written = written as usize;
-    match number {
-        0 => Ok(written),
-        _ => Err(StoppedRun {
-            refusal: Refusal { number, place },
-            written,
-        }),
-    }
+    let row = ffi::lcov_run(file, section, run);
+    listed(row).map_err(|(refusal, written)| StoppedRun { refusal, written })
 }
 
 /// What a refused reading of a tracefile returns: why it stopped, and how many
@@ -117,12 +111,7 @@ pub struct StoppedRun {
 
 impl fmt::Display for StoppedRun {
     fn fmt(&self, f: &mut fmt::Formatter<'_>) -> fmt::Result {
-        let StoppedRun { refusal, written } = self;
-        write!(f, "{refusal}")?;
-        if *written > 0 {
-            write!(f, "; written before: numbers {written}")?;
-        }
-        Ok(())
+        tell_count(f, self.refusal, "numbers", self.written)
     }
 }
 

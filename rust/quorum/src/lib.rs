@@ -7,6 +7,7 @@
 //!   some of them; [`finished()`] hands out each question's own.
 //! * [`query_alone()`] writes the bins of the first run that too few of the others
 //!   hold: what a new test found alone.
+//! * [`pair()`] writes the bins that both of two runs hold, without a certificate.
 //! * [`check()`] decides whether a certificate is true, [`check_chosen()`]
 //!   whether it is for some of the runs, [`check_weighted()`] whether it is for
 //!   runs with weights.
@@ -117,6 +118,7 @@ mod finished;
 mod lcov;
 mod limits;
 mod many;
+mod pair;
 mod refusal;
 mod weighted;
 
@@ -130,6 +132,7 @@ pub use limits::{
     MAX_RUNS, MAX_WEIGHT,
 };
 pub use many::{query_many, StoppedMany};
+pub use pair::{pair, StoppedPair};
 pub use refusal::{Refusal, Stopped};
 pub use weighted::{check_weighted, query_weighted};
 
@@ -305,6 +308,16 @@ fn counted([answers, parts, bytes, doublings, halvings]: [u64; 5]) -> Counts {
         bytes: bytes as usize,
         doublings,
         halvings,
+    }
+}
+
+/// What a call that writes one row of numbers returns for the row of results that
+/// the library writes: how many it wrote, with the refusal if there is one.
+fn listed([number, place, written]: [u64; 3]) -> Result<usize, (Refusal, usize)> {
+    let written = written as usize;
+    match number {
+        0 => Ok(written),
+        _ => Err((Refusal { number, place }, written)),
     }
 }
 

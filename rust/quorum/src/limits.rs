@@ -64,7 +64,7 @@ pub const ENOUGH_PROBES: u32 = 44_040_192;
 /// [`ANSWERS_FULL`](crate::Refusal::ANSWERS_FULL) never occurs (proved). Many
 /// questions in one call need at most this for each of them.
 /// [`query_alone()`](crate::query_alone()) needs at most this for the numbers of the
-/// first run.
+/// first run, and [`pair()`](crate::pair()) for those of the shorter run (proved).
 ///
 /// ```
 /// assert_eq!(quorum::enough_answers(9), 9);

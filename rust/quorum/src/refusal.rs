@@ -50,6 +50,8 @@ pub struct Refusal {
 /// this order, and then what [`query()`](crate::query()) and
 /// [`check()`](crate::check()) do.
 ///
+/// [`pair()`](crate::pair()) tests 1, 3 and 4 first and in this order, and then 5.
+///
 /// [`lcov_run()`](crate::lcov_run()) tests 15, 4 and 5 in this order for each
 /// record, and 16 at the end of the file.
 ///
@@ -67,8 +69,9 @@ pub struct Refusal {
 /// }
 /// ```
 impl Refusal {
-    /// There are no runs, or more than [`MAX_RUNS`](crate::MAX_RUNS). The place
-    /// is the number of runs.
+    /// There are no runs, or more than [`MAX_RUNS`](crate::MAX_RUNS); for
+    /// [`pair()`](crate::pair()), any number of runs but two. The place is the number
+    /// of runs.
     pub const BAD_RUN_COUNT: u64 = 1;
 
     /// The threshold is 0 or above the number of runs that the question is about:
@@ -94,8 +97,9 @@ impl Refusal {
 
     /// One more answer is due and the answer buffer is full. The place is the
     /// number of parts written, which from [`query_alone()`](crate::query_alone()) are
-    /// all. From [`lcov_run()`](crate::lcov_run()): one more number is due and the row
-    /// is full. The place is the count written.
+    /// all; from [`pair()`](crate::pair()) it is the number of answers written. From
+    /// [`lcov_run()`](crate::lcov_run()): one more number is due and the row is full.
+    /// The place is the count written.
     pub const ANSWERS_FULL: u64 = 5;
 
     /// One more part is due and does not fit the rest of the certificate
@@ -154,7 +158,7 @@ impl Refusal {
 impl fmt::Display for Refusal {
     fn fmt(&self, f: &mut fmt::Formatter<'_>) -> fmt::Result {
         let ground = match self.number {
-            Refusal::BAD_RUN_COUNT => "no runs, or more than 64",
+            Refusal::BAD_RUN_COUNT => "no runs, or more than 64; or, for a pair, not two",
             Refusal::BAD_THRESHOLD => {
                 "the threshold is 0 or above the number of runs that the question is about; \
                  or the wanted weight is 0 or above that of all runs"
@@ -259,6 +263,20 @@ pub(crate) fn tell_written(f: &mut fmt::Formatter<'_>, counts: &Counts) -> fmt::
         "; written before: answers {}, parts {}, bytes {}",
         counts.answers, counts.parts, counts.bytes
     )
+}
+
+/// Tells a refusal and how many of these were written before, if any were.
+pub(crate) fn tell_count(
+    f: &mut fmt::Formatter<'_>,
+    refusal: Refusal,
+    what: &str,
+    count: usize,
+) -> fmt::Result {
+    write!(f, "{refusal}")?;
+    match count {
+        0 => Ok(()),
+        _ => write!(f, "; written before: {what} {count}"),
+    }
 }
 
 /// Its text has the refusal's, so the refusal is no source of its own.

@@ -1,8 +1,8 @@
 //! Refusals as errors: their texts, and `?` in functions whose errors differ.
 
 use quorum::{
-    check, lcov_run, parts, probe_bound, query, query_alone, query_weighted, Checked, Counts, Part,
-    Refusal, Stopped, StoppedRun,
+    check, lcov_run, pair, parts, probe_bound, query, query_alone, query_weighted, Checked, Counts,
+    Part, Refusal, Stopped, StoppedPair, StoppedRun,
 };
 use std::collections::BTreeSet;
 use std::error::Error;
@@ -181,6 +181,39 @@ fn stopped_alone() {
         place: 4,
     };
     assert_eq!((bad.refusal, bad.counts), (refusal, Counts::default()));
+    assert_eq!(bad.to_string(), refusal.to_string());
+}
+
+/// A pair that is stopped tells its refusal once and what it wrote, if anything, and
+/// `?` turns it into its refusal.
+#[test]
+fn stopped_pairs() {
+    // The first two of the runs.
+    let ask = |room: usize| pair(&NUMBERS[..7], &ENDS[..2], &mut [0; 2][..room]);
+    let full = |answers| StoppedPair {
+        refusal: Refusal {
+            number: Refusal::ANSWERS_FULL,
+            place: answers as u64,
+        },
+        answers,
+    };
+    assert_eq!(ask(2), Ok(2));
+    assert_eq!(ask(1), Err(full(1)));
+    let written = format!("{}; written before: answers 1", full(1).refusal);
+    assert_eq!(full(1).to_string(), written);
+    assert!(full(1).source().is_none());
+
+    assert_eq!(ask(0), Err(full(0)));
+    assert_eq!(full(0).to_string(), full(0).refusal.to_string());
+    let refused = || -> Result<usize, Refusal> { Ok(ask(0)?) };
+    assert_eq!(refused(), Err(full(0).refusal));
+
+    let bad = pair(&NUMBERS, &ENDS, &mut [0; 2]).unwrap_err();
+    let refusal = Refusal {
+        number: Refusal::BAD_RUN_COUNT,
+        place: 3,
+    };
+    assert_eq!((bad.refusal, bad.answers), (refusal, 0));
     assert_eq!(bad.to_string(), refusal.to_string());
 }
 

@@ -236,6 +236,14 @@ fn places_of_results() {
     assert_eq!(at(&row, "MANY_DOUBLINGS"), 8);
     assert_eq!(at(&row, "MANY_HALVINGS"), 6);
 
+    let row = ffi::pair(&[2, 5, 9, 5, 7, 9, 12], &[3, 7], &mut answers);
+    assert_eq!(row.len(), length("PAIR_ROW"));
+    assert_eq!(at(&row, "PAIR_ANSWERS"), 2);
+    let row = ffi::pair(&[2, 5, 9, 5, 7, 9, 12], &[3, 7], &mut [0]);
+    assert_eq!(at(&row, "REFUSAL"), Refusal::ANSWERS_FULL);
+    assert_eq!(at(&row, "PLACE"), 1);
+    assert_eq!(at(&row, "PAIR_ANSWERS"), 1);
+
     let part = ffi::between(&[2, 5, 9], 3, 9);
     let row = [part.start, part.end];
     assert_eq!(row.len(), length("BETWEEN_ROW"));

@@ -5,7 +5,7 @@ use crate::mask::other_runs;
 use crate::query::Outcome;
 use crate::walk::walk;
 use crate::weights::Weights;
-use crate::writer::{Writer, Written};
+use crate::writer::{append, Writer, Written};
 
 /// Writes the bins of run 0 that fewer than `threshold` of the other runs hold to
 /// `answers`, rising, and the certificate of the other runs to `certificate`,
@@ -40,16 +40,11 @@ pub fn query_alone(
 
     // They rise.
     let held = &held[..written.answers as usize];
-    let alone = runs[0].iter().filter(|x| held.binary_search(x).is_err());
+    let mut alone = runs[0].iter().filter(|x| held.binary_search(x).is_err());
     let mut count = 0;
-    for &x in alone {
-        let Some(place) = answers.get_mut(count) else {
-            return Outcome::of_walk(Err(5), with_answers(count as u64));
-        };
-        *place = x;
-        count += 1;
-    }
-    Outcome::of_walk(Ok(()), with_answers(count as u64))
+    let end = alone.try_for_each(|&x| append(answers, &mut count, x));
+    let end = end.map_err(|full| full.number);
+    Outcome::of_walk(end, with_answers(count as u64))
 }
 
 /// The first checks: 1, 2 for the threshold of all runs but the first, 3 and 4 for

@@ -2,6 +2,7 @@
 
 use crate::first_checks::Refusal;
 use crate::text::{decimal_digits, lines, read_number};
+use crate::writer::append;
 
 /// What [`lcov_run()`] returns.
 #[derive(Clone, Copy, Debug, PartialEq, Eq)]
@@ -51,7 +52,7 @@ fn read_section(
         };
         let (number, is_hit) = read_record(values).ok_or(Refusal::new(15, offset))?;
         if is_hit {
-            append(number, run, written)?;
+            append_rising(number, run, written)?;
         }
     }
     Err(at_the_end)
@@ -76,12 +77,9 @@ fn read_record(values: &[u8]) -> Option<(u32, bool)> {
 }
 
 /// Writes one more number, which must be above the one before it.
-fn append(number: u32, run: &mut [u32], written: &mut usize) -> Result<(), Refusal> {
+fn append_rising(number: u32, run: &mut [u32], written: &mut usize) -> Result<(), Refusal> {
     if *written > 0 && number <= run[*written - 1] {
         return Err(Refusal::new(4, *written));
     }
-    let place = run.get_mut(*written).ok_or(Refusal::new(5, *written))?;
-    *place = number;
-    *written += 1;
-    Ok(())
+    append(run, written, number)
 }

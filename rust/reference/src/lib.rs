@@ -12,6 +12,7 @@
 //!   [`query_weighted()`] does so for runs with weights, [`query_many()`] for many
 //!   questions, each about some of the runs. [`query_alone()`] writes what the
 //!   first run holds and too few of the others.
+//! * [`pair()`] writes what both of two runs hold, by mutual partition.
 //! * [`check()`] decides whether a certificate is true, and names the first
 //!   wrong field.
 //! * [`between()`] finds the bins of one list between two numbers.
@@ -20,7 +21,8 @@
 //! * [`probe_bound`] gives an allowance that is enough.
 //! * [`lcov_run()`] reads one section of an LCOV tracefile as one run.
 //! * [`trace()`], [`is_true`] and [`fewest_parts()`] serve tests: they give the
-//!   whole walk and the definitions it is compared with.
+//!   whole walk and the definitions it is compared with. So does [`pair_steps()`],
+//!   which gives the whole partition.
 //! * [`testing`] is what the tests of this crate and the comparison share.
 //!
 //! A function whose name ends in `chosen` is about those of the runs that a mask
@@ -44,6 +46,7 @@ pub mod hits;
 pub mod lcov;
 pub mod many;
 pub mod mask;
+pub mod pair;
 pub mod probes;
 pub mod query;
 pub mod testing;
@@ -65,6 +68,7 @@ pub use hits::hits;
 pub use lcov::{lcov_run, Reading};
 pub use many::{query_many, ManyOutcome};
 pub use mask::{all_runs, named_runs, other_runs};
+pub use pair::{pair, pair_steps, PairOutcome, Step};
 pub use probes::{Probe, Probes};
 pub use query::{query, query_by, query_weighted, Outcome};
 pub use text::{parse, Question};

@@ -3,8 +3,8 @@
 //! specification's instances: queries as a list of runs, weights, threshold,
 //! allowance, expected parts and outcome, checks as one of certificates and
 //! verdicts, parts between two numbers, and those about some of the runs, about
-//! what the first run holds alone, about checks by weight and about tracefiles in
-//! lists of their own.
+//! what the first run holds alone, about pairs of runs, about checks by weight and
+//! about tracefiles in lists of their own.
 
 use crate::{encode, Outcome, Part, Verdict};
 use std::iter;
@@ -13,6 +13,7 @@ mod alone;
 mod lcov;
 mod many;
 mod marks;
+mod pair;
 mod weights;
 
 pub use alone::{alone_instances, held_alone, AloneInstance};
@@ -24,6 +25,7 @@ pub use many::{
     FIRST_TWO_PARTS, LAST_TWO_PARTS, OUTER_TWO_PARTS,
 };
 pub use marks::{any_marks, mark_later, mark_some, marked, marked_three_runs, BETWEEN_INSTANCES};
+pub use pair::{pair_instances, PairInstance};
 pub use weights::{
     any_weights, break_weights, weight_of, weighted_checks, Wanted, THREE_WEIGHTED_PARTS,
 };

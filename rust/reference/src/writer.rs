@@ -1,7 +1,8 @@
-//! Where the walks of a call write: the lent buffers, and the probes that the
+//! Where calls write: the lent buffers, and the probes of walks, which the
 //! allowance is held against.
 
 use crate::certificate::{answer_field, gap_field};
+use crate::first_checks::Refusal;
 use crate::probes::{Probe, Probes};
 use crate::walk::Recorder;
 
@@ -86,4 +87,12 @@ impl Recorder for Writer<'_> {
     fn gap(&mut self, first: u32, last: u32, mask: u64) -> Result<(), u8> {
         self.write_part(&gap_field(first, last, mask))
     }
+}
+
+/// Writes one more number to a row that has so many; refusal 5 if it is full.
+pub(crate) fn append(row: &mut [u32], written: &mut usize, number: u32) -> Result<(), Refusal> {
+    let place = row.get_mut(*written).ok_or(Refusal::new(5, *written))?;
+    *place = number;
+    *written += 1;
+    Ok(())
 }

@@ -4,9 +4,9 @@ use Prim.Native.Nat.{_+_, _-_, _≤_}
 use denote.Ref.{now}
 use lib.ListN.{length}
 use native.Mathlib.Omega.{arith}
-use Rattle.model.specs.Runs.{rank}
 use Rattle.model.proofs.From.{rank-le}
 use Rattle.model.proofs.Ordered.{place-low, place-high}
+use Rattle.model.specs.Runs.{rank}
 use Rattle.insertion_rank.proofs.first_at_least.Statement.{statement}
 use Rattle.insertion_rank.proofs.first_at_least.Tie as tie
 

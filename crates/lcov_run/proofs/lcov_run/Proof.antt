@@ -3,7 +3,7 @@ use borrow.Author.Needs.{needs}
 use lib.ListN.{length}
 use mathlib.Core.Path.{subst}
 use Rattle.lcov_form.specs.Reading.{readFrom, resultOf, lcovRun}
-use Rattle.lcov_run.specs.Outcomes.{Returns}
+use Rattle.row_fill.specs.Filling.{Returns}
 use Rattle.lcov_run.proofs.lcov_run.Statement.{statement}
 use Rattle.lcov_run.proofs.lcov_run.Tie as tie
 

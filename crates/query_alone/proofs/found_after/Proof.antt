@@ -9,7 +9,7 @@ use Rattle.model.specs.Alone.{newBins}
 use Rattle.model.specs.Runs.{runs}
 use Rattle.query.specs.Outcomes.{outcomeIs}
 use Rattle.query_alone.specs.Others.{foundIn, FoundAfter}
-use Rattle.query_difference.specs.Gaps.{Keeps}
+use Rattle.row_fill.specs.Keeps.{Keeps}
 use Rattle.query_alone.proofs.Alone.{new-part, new-inside, kept-front, found-all, found-full}
 use Rattle.query_alone.proofs.found_after.Statement.{statement}
 use Rattle.query_alone.proofs.found_after.Tie as tie

@@ -90,8 +90,8 @@ returns-2 c =
 enum-known-part-3 : tie.Need-enum-known-part-3 Inv-loop μ-loop
 enum-known-part-3 c = search needs
 
-pass-answer-requires : tie.Need-pass-answer-requires Inv-loop μ-loop
-pass-answer-requires c κs = tt
+place-after-requires : tie.Need-place-after-requires Inv-loop μ-loop
+place-after-requires c κs = tt
 
 -- a field takes bytes of the certificate
 less : (q : tie.After-known-told Inv-loop μ-loop)
@@ -122,7 +122,7 @@ loop-again-2 : tie.Need-loop-again-2 Inv-loop μ-loop
 loop-again-2 c =
     let q = c .before .before .before .before in
     passing-answer (loop-of (field-of q) .loop .inv) (q .before .part .given .0 .1 .0) (held q) (c .before .before .part3 .given .1)
-    (c .pass-answer .ensures)
+    (c .place-after .ensures)
 
 same-length-3 : tie.Need-same-length-3 Inv-loop μ-loop
 same-length-3 c = c .before .loop .inv .kept .same
@@ -149,7 +149,7 @@ in-gaps-spec =
     same-length-2
     returns-2
     enum-known-part-3
-    pass-answer-requires
+    place-after-requires
     loop-less
     loop-again
     loop-less-2

@@ -1,0 +1,10 @@
+pub mod Both
+pub mod Instances
+pub mod Lent
+pub mod Nesting
+pub mod Room
+pub mod Seeking
+pub mod Sides
+pub mod Splitting
+pub mod Unique
+pub mod Walked

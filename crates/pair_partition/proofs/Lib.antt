@@ -1,0 +1,3 @@
+pub mod Pivot
+pub mod Sides
+pub mod Writing
