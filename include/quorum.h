@@ -459,17 +459,20 @@ void quorum_query_alone(const uint32_t *numbers, size_t numbers_len,
  *
  * `result` receives refusal and place, and the answers written. Refusals 1, 3 and 4
  * write nothing, and their count is 0; any number of runs but two is 1. After 5 the
- * answer buffer is full of the least answers, the place being their number. Later
- * places of it are unchanged, also of an accepted call.
+ * answer buffer is full of the least answers, the place being their number. After an
+ * accepted call its later places are unchanged.
  *
  * There are at most as many answers as numbers in the shorter run: with room for so
  * many, or QUORUM_ENOUGH_ANSWERS of all numbers, 5 never occurs. (Proved: `few-found`,
  * `pair-room`.)
  *
- * Cost: one pass over the numbers for the first checks, then, for m bins in the
- * shorter run and n in the longer one, comparisons of the order of
- * m * (1 + log2(n / m)). It nests no deeper than m has binary digits, so at most 20
- * calls deep on the stack for QUORUM_MAX_NUMBERS numbers in all.
+ * Cost: one pass over the numbers for the first checks. Then, for m bins in the
+ * shorter run and n in the longer one, at most m pivots are sought, each by at most b
+ * comparisons, b being the binary digits of n, and one more tells whether it was found:
+ * never more than m * (b + 1), and of the order of m * (1 + log2(n / m)). (Proved of
+ * the way that is specified: `few-sought`, `sought-more`.) It nests no deeper than m has
+ * binary digits, so at most 20 calls deep on the stack for QUORUM_MAX_NUMBERS numbers
+ * in all.
  *
  * Example: what both of {2, 5, 9} and {5, 7, 9, 12} hold, which are the first two of
  * the runs above; then with room for one answer.

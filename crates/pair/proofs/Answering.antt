@@ -1,14 +1,14 @@
 -- What a pair returns and leaves in its row, by what is found and kept of it. Assumes nothing.
 use Prim.Native.Nat.{ℕ}
 use borrow.Author.Tests.{lt-ltb, le-ltb}
-use lib.ListN.{length, take, drop}
-use lib.Seq.{length-take-le, take-all, drop-length}
-use mathlib.Core.List.{List, _++_, append-nil}
-use mathlib.Core.Path.{_≡_, refl, sym, ap, _∙_}
-use native.Mathlib.Omega.{arith}
-use Rattle.model.specs.Refusals.{passed, refusal, refuseIf, over}
+use lib.ListN.{length}
+use lib.Seq.{take-all}
+use mathlib.Core.List.{List}
+use mathlib.Core.Path.{_≡_, refl, ap}
+use Rattle.model.specs.Refusals.{passed, refusal, refuseIf}
 use Rattle.model.specs.Runs.{runs}
 use Rattle.pair_model.specs.Pair.{foundIn, partitionOf, pairChecks, filledWith, filledAfter, pair}
+use Rattle.row_fill.proofs.Keeping.{keeps-row}
 use Rattle.row_fill.specs.Filling.{Returns}
 use Rattle.row_fill.specs.Keeps.{Keeps}
 use Rattle.row_fill.specs.declared.Filled.{Filled}
@@ -20,19 +20,16 @@ module _ (found row row′ : List ℕ) where
   unfolding filledWith refuseIf
   all-kept n k =
       let t = take-all (length row) found (k .1) in
-      record { check-is = rw (le-ltb (length row) (length found) (k .1)); count-is = rw t (k .0); row-is = rw t (k .2) }
+      record { check-is = rw (le-ltb (length row) (length found) (k .1)); count-is = rw t (k .0); row-is = keeps-row found row row′ (All n) k }
 
   pub full-kept : Keeps found row row′ Full → Returns (filledWith found row) (Refused 5 (length row′) (length row′)) row′
-  unfolding filledWith refuseIf over
+  unfolding filledWith refuseIf
   full-kept k =
-      let l = length-take-le (length row) found (let h = k .0 in omega arith) in
       let n = ap length (k .1) in
       record {
         check-is = rw (lt-ltb (length row) (length found) (k .0)) (ap (refusal 5) n);
         count-is = n;
-        row-is = k .1
-            ∙ sym (ap (λ m. take (length row) found ++ drop m row) l
-            ∙ (ap (λ t. take (length row) found ++ t) (drop-length row) ∙ append-nil (take (length row) found)));
+        row-is = keeps-row found row row′ Full k;
       }
 
 module _ (numbers ends row : List ℕ) where

@@ -61,8 +61,8 @@ fn answer(numbers: &[u32], ends: &[u32], answers: &mut [u32]) -> Filled
     }
 }
 
-// Which bins both of two runs have. One pass over the numbers for the checks; then, m being the shorter run's length and n the longer one's, comparisons of the order
-// of m × (1 + log2(n / m)), in calls that are nested no deeper than m has binary digits.
+// Which bins both of two runs have. One pass over the numbers for the checks; then, m being the shorter run's length and b the binary digits of the longer one's, at
+// most m × (b + 1) comparisons, in calls that are nested no deeper than m has binary digits.
 pub fn pair(numbers: &[u32], ends: &[u32], answers: &mut [u32]) -> Filled
     ensures returns { λ r. ⌜ Returns (pair (now (numbers .entry)) (now (ends .entry)) (now (answers .entry))) r (now (answers .exit)) ⌝ }
     ensures demand2 { λ r. ⌜ PairDemand2 (now (numbers .entry)) (now (ends .entry)) (length (now (answers .entry))) (checkIs r) (countIs r) (now (answers .exit)) ⌝ }

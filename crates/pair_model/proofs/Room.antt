@@ -1,88 +1,75 @@
--- A pair has no more answers than either list has numbers: at a split the answers below the pivot are no more than the list's numbers below it, the pivot is an
--- answer only where the list has it there, and the answers above are no more than its numbers above. So room for that many is enough. Assumes nothing.
-use Prim.Native.Nat.{ℕ, zero, suc, _+_, _≤_, min}
-use lib.ListN.{length, take, drop, length-append, take-append-drop}
+-- No more pivots are sought than the shorter list has numbers: at a split it gives one of them, which is in neither of its sides. Each pivot is one answer at most, so a
+-- pair has no more answers either, and room for that many is enough. Assumes nothing.
+use Prim.Native.Nat.{ℕ, zero, suc, _+_, _≤_, _<_, min}
+use lib.ListN.{length, drop, length-append}
 use mathlib.Core.Bool.{Bool, true, false, _&&_}
 use mathlib.Core.List.{List, [], _∷_, List·Memᴰ, List·Memᴰ·cases-cons, List·Memᴰ·eq-of-singleton}
 use mathlib.Core.Logic.{⊎-elim, _≢_}
-use mathlib.Core.Path.{_≡_, ap, _∙_}
+use mathlib.Core.Path.{_≡_, _∙_}
 use native.Mathlib.Omega.{arith}
-use Rattle.insertion_rank.proofs.Passed.{begins-nil, begins-same, begins-other, passed-nil, passed-same, passed-other}
-use Rattle.insertion_rank.specs.Passed.{beginsWith, passedOver}
+use Rattle.insertion_rank.specs.Passed.{beginsWith}
 use Rattle.model.proofs.Enough.{listed-numbers}
 use Rattle.model.proofs.FirstChecks.{all-length}
 use Rattle.model.proofs.Tests.{eq-or-ne}
 use Rattle.model.specs.Refusals.{passed}
-use Rattle.model.specs.Runs.{Run, runs, total, one}
+use Rattle.model.specs.Runs.{Run, runs, total}
 use Rattle.pair_model.proofs.Lent.{pair-two, pair-listed}
-use Rattle.pair_model.proofs.Splitting.{by-none, by-split}
+use Rattle.pair_model.proofs.Splitting.{sides-fewer, by-none, by-split}
 use Rattle.pair_model.proofs.Walked.{filled-whole, pair-filled}
-use Rattle.pair_model.specs.Claims.{Few, PairRoom}
-use Rattle.pair_model.specs.Pair.{Split, splitOf, pivotOf, Partition, not-entered, split-at, partitionBy, partitionWithin, partition, foundIn, partitionOf, pairChecks, pair}
+use Rattle.pair_model.specs.Claims.{FewSought, Few, PairRoom}
+use Rattle.pair_model.specs.Pair.{Split, splitOf, pivotOf, Partition, not-entered, split-at, partitionBy, partitionWithin, partition, foundIn, pivots, partitionOf, pairChecks, pair}
 
--- ---- one list
+-- ---- the pivots and the answers
 
-module _ (v : ℕ) where
-  -- v, where a list begins with it, and the rest
-  passed-length : (s : List ℕ) → one (beginsWith v s) + length (passedOver v s) ≡ length s
-  unfolding one
-  passed-length [] = rw (begins-nil v, passed-nil v, one)
-  passed-length (x ∷ s) =
-      ⊎-elim
-      (λ (e : x ≡ v). rw (begins-same v x s e, passed-same v x s e, one) (omega arith))
-      (λ (e : x ≢ v). rw (begins-other v x s e, passed-other v x s e, one) (omega arith))
-      (eq-or-ne x v)
+-- no more answers than pivots, and no more pivots than so many
+record Counted (n : ℕ) (p : Partition) : Type 0 where
+  found : length (foundIn p) ≤ pivots p
+  sought : pivots p ≤ n
 
-  -- split at a place
-  split-length : (place : ℕ) (s : List ℕ)
-      → length (take place s) + (one (beginsWith v (drop place s)) + length (passedOver v (drop place s))) ≡ length s
-  split-length place s =
-      let t = length-append (take place s) (drop place s) in
-      let w = ap length (take-append-drop place s) in
-      let p = passed-length (drop place s) in
-      omega arith
+none-counted : (n : ℕ) → Counted n not-entered
+unfolding foundIn pivots
+none-counted n = record { found = omega arith; sought = omega arith }
 
--- ---- the answers
+-- the pivot is one answer or none
+pivot-once : (v : ℕ) (t : Bool) → length {A = ℕ} (elim t [ true ↦ v ∷ [] | false ↦ [] ]) ≤ 1
+pivot-once v true = omega arith
+pivot-once v false = omega arith
 
-none-few : (n : ℕ) → length (foundIn not-entered) ≤ n
-unfolding foundIn
-none-few n = omega arith
+-- split at a pivot
+split-counted : (s : Split) (a b : List ℕ) (below above : Partition) (l u n : ℕ) → Counted l below → Counted u above → l + u < n
+    → Counted n (split-at below (pivotOf s a b) above)
+unfolding foundIn pivots pivotOf
+split-counted s a b below above l u n p q h =
+    let o = pivot-once (s .pivot) (beginsWith (s .pivot) (drop (s .first) a) && beginsWith (s .pivot) (drop (s .second) b)) in
+    let c = p .found in
+    let d = q .found in
+    record { found = simp length-append (omega arith); sought = omega (arith, p .sought, q .sought) }
 
--- the pivot is an answer only where both lists begin with it at the split
-pivot-few : (v : ℕ) (p q : Bool) → length {A = ℕ} (elim (p && q) [ true ↦ v ∷ [] | false ↦ [] ]) ≤ min (one p) (one q)
-unfolding one
-pivot-few v true true = omega arith
-pivot-few v true false = omega arith
-pivot-few v false true = omega arith
-pivot-few v false false = omega arith
-
--- split at a pivot, with no more answers on either side than either list has numbers there
-split-few : (s : Split) (a b : List ℕ) (below above : Partition) → length (foundIn below) ≤ min (length (take (s .first) a)) (length (take (s .second) b))
-    → length (foundIn above) ≤ min (length (passedOver (s .pivot) (drop (s .first) a))) (length (passedOver (s .pivot) (drop (s .second) b)))
-    → length (foundIn (split-at below (pivotOf s a b) above)) ≤ min (length a) (length b)
-unfolding foundIn pivotOf
-split-few s a b below above l u =
-    let n = pivot-few (s .pivot) (beginsWith (s .pivot) (drop (s .first) a)) (beginsWith (s .pivot) (drop (s .second) b)) in
-    let c = split-length (s .pivot) (s .first) a in
-    let d = split-length (s .pivot) (s .second) b in
-    simp length-append (omega arith)
-
-by-few : (sides : List ℕ → List ℕ → Partition) → ((a b : List ℕ) → length (foundIn (sides a b)) ≤ min (length a) (length b)) → (a b : List ℕ)
-    → length (foundIn (partitionBy sides a b)) ≤ min (length a) (length b)
-by-few sides i a b =
+by-counted : (sides : List ℕ → List ℕ → Partition) → ((a b : List ℕ) → Counted (min (length a) (length b)) (sides a b)) → (a b : List ℕ)
+    → Counted (min (length a) (length b)) (partitionBy sides a b)
+by-counted sides i a b =
     ⊎-elim
-    (λ (z : min (length a) (length b) ≡ 0). rw (by-none sides a b z) (none-few _))
-    (λ (z : min (length a) (length b) ≢ 0). rw (by-split sides a b (omega arith)) (split-few (splitOf a b) a b _ _ (i _ _) (i _ _)))
+    (λ (z : min (length a) (length b) ≡ 0). rw (by-none sides a b z) (none-counted _))
+    (λ (z : min (length a) (length b) ≢ 0).
+    let p : 0 < min (length a) (length b) = omega arith in
+    rw (by-split sides a b p) (split-counted (splitOf a b) a b _ _ _ _ _ (i _ _) (i _ _) (sides-fewer a b p)))
     (eq-or-ne (min (length a) (length b)) 0)
 
-within-few : (fuel : ℕ) (a b : List ℕ) → length (foundIn (partitionWithin fuel a b)) ≤ min (length a) (length b)
+within-counted : (fuel : ℕ) (a b : List ℕ) → Counted (min (length a) (length b)) (partitionWithin fuel a b)
 unfolding partitionWithin
-within-few zero a b = none-few _
-within-few (suc fuel) a b = by-few (partitionWithin fuel) (λ c d. within-few fuel c d) a b
+within-counted zero a b = none-counted _
+within-counted (suc fuel) a b = by-counted (partitionWithin fuel) (λ c d. within-counted fuel c d) a b
 
-pub few-found : (a b : List ℕ) → Few a b
-unfolding partition
-few-found a b = record { few = within-few (min (length a) (length b)) a b }
+module _ (a b : List ℕ) where
+  counted : Counted (min (length a) (length b)) (partition a b)
+  unfolding partition
+  counted = within-counted (min (length a) (length b)) a b
+
+  pub few-sought : FewSought a b
+  few-sought = record { sought = counted .sought }
+
+  pub few-found : Few a b
+  few-found = record { few = omega (arith, counted .found, counted .sought) }
 
 -- ---- the call
 

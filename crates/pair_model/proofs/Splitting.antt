@@ -1,5 +1,5 @@
 -- The split of two lists, what the partition does at it, and the shorter lengths of the sides: at most half, so that each has fewer binary digits. Assumes nothing.
-use Prim.Native.Nat.{ℕ, zero, suc, _/_, _≤_, _<_, min}
+use Prim.Native.Nat.{ℕ, zero, suc, _+_, _/_, _≤_, _<_, min}
 use borrow.Author.Tests.{le-leb, lt-leb, eq-eqb, ne-eqb}
 use lib.ListN.{length, getD, take, drop, length-take, length-drop}
 use lib.Seq.{drop-cons}
@@ -35,7 +35,7 @@ module _ (s : List ℕ) where
   middle-passed : 0 < length s → passedOver (getD s (length s / 2) 0) (drop (length s / 2) s) ≡ drop (suc (length s / 2)) s
   middle-passed h = rw (drop-cons s (length s / 2) 0 (omega arith)) (passed-same _ _ _ refl)
 
-  end-half : 0 < length s → length (passedOver (getD s (length s / 2) 0) (drop (length s / 2) s)) ≤ length s / 2
+  end-half : 0 < length s → suc (length s / 2 + length (passedOver (getD s (length s / 2) 0) (drop (length s / 2) s))) ≡ length s
   end-half h = rw (middle-passed h) (omega (arith, length-drop (suc (length s / 2)) s))
 
 -- ---- the split
@@ -84,6 +84,17 @@ module _ (a b : List ℕ) where
       ⊎-elim
       (λ (l : length b < length a). rw (second-gives l) (omega (arith, end-half b (omega arith))))
       (λ (l : length a ≤ length b). rw (first-gives l) (omega (arith, end-half a (omega arith))))
+      (lt-or-le (length b) (length a))
+
+  -- and its middle number is in neither of the sides
+  pub sides-fewer : 0 < min (length a) (length b)
+      → min (length (take (splitOf a b .first) a)) (length (take (splitOf a b .second) b))
+      + min (length (passedOver (splitOf a b .pivot) (drop (splitOf a b .first) a))) (length (passedOver (splitOf a b .pivot) (drop (splitOf a b .second) b)))
+      < min (length a) (length b)
+  sides-fewer h =
+      ⊎-elim
+      (λ (l : length b < length a). rw (second-gives l) (omega (arith, front-half b, end-half b (omega arith))))
+      (λ (l : length a ≤ length b). rw (first-gives l) (omega (arith, front-half a, end-half a (omega arith))))
       (lt-or-le (length b) (length a))
 
 -- ---- the partition

@@ -8,7 +8,7 @@ use Rattle.model.specs.Compared.{digits, wholeCertificate}
 use Rattle.model.specs.Demands.{Exact}
 use Rattle.model.specs.Refusals.{Check, passed, refusal}
 use Rattle.model.specs.Runs.{Run, runs}
-use Rattle.pair_model.specs.Pair.{partition, foundIn, nesting, pairChecks, pair}
+use Rattle.pair_model.specs.Pair.{partition, foundIn, nesting, pivots, pairChecks, pair}
 
 -- The answers are those of the walk with t = 2: all the bins that both runs have, and no others, rising, each once. With 5 there are more of them than places, and
 -- the least ones stand, in every place. No other refusal comes after the first checks.
@@ -24,6 +24,11 @@ pub record PairDemand2 (numbers ends : List ℕ) (places : ℕ) (check : Check) 
 -- The nesting is never deeper than the binary digits of the shorter run's length.
 pub record Nested (a b : List ℕ) : Type 0 where
   pub nested : nesting (partition a b) ≤ digits (min (length a) (length b))
+
+-- No more pivots are sought than the shorter run has bins. Each search compares at most as many numbers as the longer run's length has binary digits (`soughtIn`), so
+-- that all searches together make at most the product of the two.
+pub record FewSought (a b : List ℕ) : Type 0 where
+  pub sought : pivots (partition a b) ≤ min (length a) (length b)
 
 -- A pair has no more answers than the shorter run has bins.
 pub record Few (a b : List ℕ) : Type 0 where

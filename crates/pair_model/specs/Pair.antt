@@ -6,6 +6,7 @@ use mathlib.Core.List.{List, [], _∷_, _++_}
 use lib.Dec.{ltb, leb, eqb}
 use lib.ListN.{length, getD, take, drop}
 use Rattle.insertion_rank.specs.Passed.{beginsWith, passedOver}
+use Rattle.model.specs.Compared.{digits}
 use Rattle.model.specs.Refusals.{Check, passed, refusal, _then_, refuseIf, listChecks, over}
 use Rattle.model.specs.Runs.{Run, runs}
 use Rattle.row_fill.specs.Filling.{Filling}
@@ -15,7 +16,7 @@ unfoldable pub middle : List ℕ → ℕ
 middle s = length s / 2
 
 -- A number v is sought in a run by halving. While lo is below hi, the number at lo plus half of hi − lo, rounded down, is compared with v: where it is below v, the
--- place after it becomes lo, otherwise its place becomes hi. (As many comparisons as there are numbers are enough.)
+-- place after it becomes lo, otherwise its place becomes hi. (As many comparisons as the run's length has binary digits are enough.)
 unfoldable pub soughtWithin : ℕ → ℕ → List ℕ → ℕ → ℕ → ℕ
 soughtWithin zero v s lo hi = lo
 soughtWithin (suc fuel) v s lo hi =
@@ -27,7 +28,7 @@ soughtWithin (suc fuel) v s lo hi =
     ]
 
 unfoldable pub soughtIn : ℕ → List ℕ → ℕ
-soughtIn v s = soughtWithin (length s) v s 0 (length s)
+soughtIn v s = soughtWithin (digits (length s)) v s 0 (length s)
 
 -- The middle number of the shorter run, the pivot, is sought in the longer one, and both are split there; at equal lengths the first run gives it. (So many numbers
 -- of the first and of the second run stand before it.)
@@ -83,6 +84,11 @@ foundIn (split-at below found above) = foundIn below ++ (found ++ foundIn above)
 unfoldable pub nesting : Partition → ℕ
 nesting not-entered = 0
 nesting (split-at below found above) = suc (max (nesting below) (nesting above))
+
+-- How many pivots are sought: one at each split.
+unfoldable pub pivots : Partition → ℕ
+pivots not-entered = 0
+pivots (split-at below found above) = suc (pivots below + pivots above)
 
 -- The two runs as they are lent, zeros at the start of either passed over.
 unfoldable pub partitionOf : List Run → Partition

@@ -12,7 +12,7 @@ use Rattle.pair_model.specs.Pair.{splitOf}
 use Rattle.pair_partition.specs.declared.Places.{Places}
 use Rattle.pair_partition.specs.declared.Split.{Split}
 
--- two rising lists, of no more numbers than there may be
+-- two rising lists, the first of no more numbers than there may be
 pub record Risen (a b : List ℕ) : Type 0 where
   pub first : Rise 0 a
   pub second : Rise 0 b

@@ -1,10 +1,10 @@
 -- The mask of the other runs, the walk over them, and the answers after it. Assumes nothing.
 use Prim.Native.Nat.{ℕ, zero, suc, _+_, _-_, _*_, _^_, _≤_, _<_}
 use borrow.Author.Tests.{lt-ltb, le-ltb}
-use lib.ListN.{length, getD, take, drop, drop-of-length-le}
+use lib.ListN.{length, getD, take, drop}
 use lib.Pow.{pow-pos}
-use lib.Seq.{take-all, length-take-le}
-use mathlib.Core.List.{List, [], _∷_, _++_, append-nil}
+use lib.Seq.{take-all}
+use mathlib.Core.List.{List, [], _∷_}
 use mathlib.Core.Path.{_≡_, refl, sym, ap, _∙_, subst}
 use native.Mathlib.Omega.{arith}
 use Rattle.field_read.specs.Held.{partsHeld}
@@ -17,8 +17,9 @@ use Rattle.model.specs.Runs.{Run, runs, bit, weightOfAll}
 use Rattle.model.proofs.Alone.{others-chosen, other-ones, other-only, alone-passed}
 use Rattle.model.proofs.FirstChecks.{then-second}
 use Rattle.model.proofs.Masks.{bit-of}
-use Rattle.query_alone.specs.Others.{RunsPlaced, Walked, foundIn, FoundAfter}
+use Rattle.query_alone.specs.Others.{RunsPlaced, Walked, inGapsOf, FoundAfter}
 use Rattle.query_difference.specs.Gaps.{inGaps}
+use Rattle.row_fill.proofs.Keeping.{keeps-row}
 use Rattle.row_fill.specs.Keeps.{Keeps}
 use Rattle.row_fill.specs.declared.Kept.{Kept}
 use Rattle.row_fill.specs.declared.Kept.the-variants.{All, Full}
@@ -115,11 +116,11 @@ module _ (numbers ends firsts : List ℕ) (p : RunsPlaced numbers ends firsts) w
 
 module _ (run certificate : List ℕ) (allowance : ℕ) (w : State) (A A′ : List ℕ) (o : Outcome) where
   abbrev found : List ℕ
-  found = foundIn run certificate (w .bytes)
+  found = inGapsOf run certificate (w .bytes)
 
   -- the bytes of the certificate from its front on
   pub kept-front : (r : Kept) → Keeps (inGaps (partsHeld (take (w .bytes - 0) certificate)) run) A A′ r → Keeps found A A′ r
-  unfolding foundIn
+  unfolding inGapsOf
   kept-front r k =
       let e : w .bytes - 0 ≡ w .bytes = omega arith in
       subst (λ n. Keeps (inGaps (partsHeld (take n certificate)) run) A A′ r) e k
@@ -132,18 +133,14 @@ module _ (run certificate : List ℕ) (allowance : ℕ) (w : State) (A A′ : Li
       let c : n ≡ length (take (length A) found) = k .0 ∙ sym (ap length t) in
       record {
         outcome-is = e ∙ rw (le-ltb (length A) (length found) (k .1), fullNumber) (ap (λ x. outcomeAt 0 (countsWith allowance x (w .parts) (w .bytes) (w .tally))) c);
-        answers-are = k .2 ∙ ap (λ x. over x A) (sym t);
+        answers-are = keeps-row found A A′ (All n) k;
       }
 
   pub found-full : Keeps found A A′ Full → o ≡ outcomeAt 5 (countsWith allowance (length A′) (w .parts) (w .bytes) (w .tally)) → FoundAfter run certificate allowance w A A′ o
-  unfolding fullNumber over
+  unfolding fullNumber
   found-full k e =
-      let l : length A ≤ length found = omega (arith, k .0) in
-      let n = length-take-le (length A) found l in
-      let m : length A ≤ length (take (length A) found) = omega arith in
-      let d : drop (length (take (length A) found)) A ≡ [] = drop-of-length-le A m in
       record {
         outcome-is = e
             ∙ rw (lt-ltb (length A) (length found) (k .0), fullNumber) (ap (λ x. outcomeAt 5 (countsWith allowance (length x) (w .parts) (w .bytes) (w .tally))) (k .1));
-        answers-are = k .1 ∙ (sym (append-nil (take (length A) found)) ∙ ap (λ x. take (length A) found ++ x) (sym d));
+        answers-are = keeps-row found A A′ Full k;
       }

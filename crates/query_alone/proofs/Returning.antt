@@ -21,7 +21,7 @@ use Rattle.model.proofs.Checking.{Narrow, chosen-narrow}
 use Rattle.model.proofs.Demands.{whole-true, all-parts}
 use Rattle.query.proofs.Questions.{returned}
 use Rattle.query.specs.Outcomes.{Returns}
-use Rattle.query_alone.specs.Others.{Walked, foundIn, FoundAfter}
+use Rattle.query_alone.specs.Others.{Walked, inGapsOf, FoundAfter}
 use Rattle.query_difference.specs.Gaps.{inGaps}
 use Rattle.query_difference.proofs.Difference.{gaps-without}
 use Rattle.walk_progress.specs.Progress.{Counts, countsWith, outcomeAt}
@@ -81,8 +81,8 @@ module _ (numbers ends : List ℕ) (t allowance : ℕ) (A B B′ : List ℕ) (r 
           }
 
   -- what lies in the gaps of the bytes written is what the new test found alone
-  found-is : Fits pastBin numbers → r .number ≡ 0 → foundIn (newBins (runs numbers ends)) B′ (r .at .bytes) ≡ aloneIn t (runs numbers ends)
-  unfolding foundIn over aloneIn walkWithoutAnswers cutWalk
+  found-is : Fits pastBin numbers → r .number ≡ 0 → inGapsOf (newBins (runs numbers ends)) B′ (r .at .bytes) ≡ aloneIn t (runs numbers ends)
+  unfolding inGapsOf over aloneIn walkWithoutAnswers cutWalk
   found-is f z =
       let g = alone-fit numbers ends t f passes in
       let whole = wholeCertificate t (otherRuns (runs numbers ends)) in

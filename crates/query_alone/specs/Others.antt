@@ -29,12 +29,12 @@ pub record Walked (e : Ended) (allowance : ℕ) (certificate certificate′ : Li
   pub certificate-is : certificate′ ≡ over (encode (partsOf (e .events))) certificate
 
 -- what of the run lies in the gaps of the certificate's bytes
-unfoldable pub foundIn : List ℕ → List ℕ → ℕ → List ℕ
-foundIn run certificate bytes = inGaps (partsHeld (take bytes certificate)) run
+unfoldable pub inGapsOf : List ℕ → List ℕ → ℕ → List ℕ
+inGapsOf run certificate bytes = inGaps (partsHeld (take bytes certificate)) run
 
 -- the bins found are written, as many as fit
 pub record FoundAfter (run certificate : List ℕ) (allowance : ℕ) (w : State) (answers answers′ : List ℕ) (o : Outcome) : Type 0 where
   pub outcome-is : o
-      ≡ outcomeAt (fullNumber (length answers) (foundIn run certificate (w .bytes)))
-      (countsWith allowance (length (take (length answers) (foundIn run certificate (w .bytes)))) (w .parts) (w .bytes) (w .tally))
-  pub answers-are : answers′ ≡ over (take (length answers) (foundIn run certificate (w .bytes))) answers
+      ≡ outcomeAt (fullNumber (length answers) (inGapsOf run certificate (w .bytes)))
+      (countsWith allowance (length (take (length answers) (inGapsOf run certificate (w .bytes)))) (w .parts) (w .bytes) (w .tally))
+  pub answers-are : answers′ ≡ over (take (length answers) (inGapsOf run certificate (w .bytes))) answers

@@ -2,7 +2,7 @@
 -- row. Assumes nothing.
 use Prim.Native.Nat.{ℕ, suc, _+_, _-_, _≤_, _<_}
 use lib.ListN.{length, take, drop, set, length-append, length-drop, length-set, take-append-drop}
-use lib.Seq.{length-take-le, take-length, take-append-seam, drop-append-seam, take-append-le, take-suc-set, drop-set-lt, drop-drop, append-snoc}
+use lib.Seq.{length-take-le, take-length, take-all, drop-length, take-append-seam, drop-append-seam, take-append-le, take-suc-set, drop-set-lt, drop-drop, append-snoc}
 use mathlib.Core.List.{List, [], _∷_, _++_, append-assoc, append-nil}
 use mathlib.Core.Path.{_≡_, refl, sym, ap, ap₂, subst, _∙_}
 use native.Mathlib.Omega.{arith}
@@ -107,3 +107,13 @@ keeps-length found row next (All n) k =
     let h = k .1 in
     ap length (k .2) ∙ (length-append found (drop (length found) row) ∙ (let d = length-drop (length found) row in omega arith))
 keeps-length found row next Full k = let h = k .0 in ap length (k .1) ∙ length-take-le (length row) found (omega arith)
+
+-- what then stands in it, all of them or as many as fit
+pub keeps-row : (found row next : List ℕ) (r : Kept) → Keeps found row next r → next ≡ over (take (length row) found) row
+unfolding over
+keeps-row found row next (All n) k = k .2 ∙ ap (λ l. over l row) (sym (take-all (length row) found (k .1)))
+keeps-row found row next Full k =
+    let h = k .0 in
+    let l = length-take-le (length row) found (omega arith) in
+    let t = take (length row) found in
+    k .1 ∙ sym (ap (λ i. t ++ drop i row) l ∙ (ap (λ e. t ++ e) (drop-length row) ∙ append-nil t))

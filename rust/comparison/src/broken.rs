@@ -5,7 +5,7 @@ use crate::shapes::any_runs;
 use reference::testing::{any_weights, break_weights, lay_out, mark_later, Random, Wanted, M};
 
 /// A row of numbers and a row of ends.
-pub type Rows = (Vec<u32>, Vec<u32>);
+pub type Lists = (Vec<u32>, Vec<u32>);
 
 /// Returns a threshold: mostly good, at times 0, one above `k` or far too
 /// large.
@@ -45,13 +45,13 @@ pub fn any_broken(random: &mut Random, k: usize, weighted: bool) -> Wanted {
 }
 
 /// The rows of up to 65 short runs, broken in one to three ways.
-pub fn any_broken_rows(random: &mut Random) -> Rows {
+pub fn any_broken_rows(random: &mut Random) -> Lists {
     let k = random.pick(&[0, 1, 2, 3, 3, 4, 5, 8, 63, 64, 65]);
     broken_rows(random, k)
 }
 
 /// The rows of `k` short runs, broken in one to three ways.
-pub fn broken_rows(random: &mut Random, k: usize) -> Rows {
+pub fn broken_rows(random: &mut Random, k: usize) -> Lists {
     let length = random.below(8);
     let (mut numbers, mut ends) = lay_out(&any_runs(random, k, length));
     for _ in 0..random.from_to(1, 3) {
@@ -63,7 +63,7 @@ pub fn broken_rows(random: &mut Random, k: usize) -> Rows {
 /// The rows of `k` runs, and their refusal, of number 3 or 4, if there is one. In
 /// all combinations: the ends fit, the last one falls, or there is a number too many;
 /// all runs rise, or the first or the last does not.
-pub fn faulty_rows(k: usize) -> Vec<(Rows, Option<(u8, u64)>)> {
+pub fn faulty_rows(k: usize) -> Vec<(Lists, Option<(u8, u64)>)> {
     let mut all = Vec::new();
     for end in 0..3 {
         for not_rising in [None, Some(1), Some((2 * k).saturating_sub(1))] {
@@ -97,7 +97,7 @@ pub fn any_limits(random: &mut Random) -> Limits {
 }
 
 /// Any rows at all, of small numbers. In half of all cases the ends fit.
-pub fn noise_rows(random: &mut Random) -> Rows {
+pub fn noise_rows(random: &mut Random) -> Lists {
     let mut numbers: Vec<u32> = (0..random.below(7)).map(|_| any_small(random)).collect();
     if random.one_in(4) {
         numbers.splice(0..0, vec![0; random.from_to(1, 4)]);

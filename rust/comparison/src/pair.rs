@@ -225,11 +225,22 @@ pub fn any_pair(random: &mut Random, length: usize) -> Vec<Vec<u32>> {
     if random.one_in(3) {
         return runs;
     }
+    runs = related(random, &runs);
+    if random.one_in(2) {
+        runs.swap(0, 1);
+    }
+    mark_some(random, &mut runs);
+    runs
+}
+
+/// Returns two runs that have something to do with each other, made from all bins of
+/// these.
+fn related(random: &mut Random, runs: &[Vec<u32>]) -> Vec<Vec<u32>> {
     let mut list: Vec<u32> = runs.iter().flat_map(|run| bins(run)).copied().collect();
     list.sort_unstable();
     list.dedup();
     let every = |from: usize, step| list.iter().skip(from).step_by(step).copied().collect();
-    runs = match random.below(10) {
+    match random.below(10) {
         // Equal.
         0 => vec![list.clone(), list],
         // One within the other, perhaps much shorter.
@@ -269,12 +280,7 @@ pub fn any_pair(random: &mut Random, length: usize) -> Vec<Vec<u32>> {
             let mut any = || (1..=last).filter(|_| random.one_in(2)).collect();
             vec![any(), any()]
         }
-    };
-    if random.one_in(2) {
-        runs.swap(0, 1);
     }
-    mark_some(random, &mut runs);
-    runs
 }
 
 /// Compares random pairs with rooms of every kind.

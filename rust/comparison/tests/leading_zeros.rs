@@ -42,7 +42,7 @@ impl Calls {
     /// Compares a question, the same with weights, many questions, what the first
     /// run holds alone, what the first two both hold, checks for all runs, by weight
     /// and for chosen runs, and parts of each run. Returns the refusal of the first
-    /// checks, which all of these make.
+    /// checks, which those about all runs make.
     fn compare(&mut self, runs: &[Vec<u32>], threshold: u32) -> Option<Refusal> {
         let (numbers, ends) = lay_out(runs);
         let refusal = first_checks(&numbers, &ends, threshold).err();

@@ -109,8 +109,7 @@ fn all_small_inputs() {
     comparer.met(&[1], 24);
 }
 
-/// Rows of two runs, of which some then have another number of them, broken in one
-/// to three ways.
+/// Rows of mostly two runs, broken in one to three ways.
 #[test]
 fn first_checks() {
     let mut comparer = Comparer::default();

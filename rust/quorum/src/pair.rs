@@ -33,8 +33,10 @@ use std::fmt;
 /// # Cost
 ///
 /// One pass over `numbers` for the first checks. Then, for m bins in the shorter run
-/// and n in the longer one, comparisons of the order of m × (1 + log2(n / m)). It nests
-/// no deeper than m has binary digits, so at most 20 calls deep on the stack for
+/// and n in the longer one, at most m × (b + 1) comparisons, b being the binary digits
+/// of n: m pivots at most are sought, each by at most b comparisons, and one more tells
+/// whether it was found. It is of the order of m × (1 + log2(n / m)). It nests no
+/// deeper than m has binary digits, so at most 20 calls deep on the stack for
 /// [`MAX_NUMBERS`](crate::MAX_NUMBERS) numbers in all.
 ///
 /// # Example

@@ -8,7 +8,7 @@ use native.Mathlib.Omega.{arith}
 use Rattle.model.specs.Alone.{newBins}
 use Rattle.model.specs.Runs.{runs}
 use Rattle.query.specs.Outcomes.{outcomeIs}
-use Rattle.query_alone.specs.Others.{foundIn, FoundAfter}
+use Rattle.query_alone.specs.Others.{inGapsOf, FoundAfter}
 use Rattle.row_fill.specs.Keeps.{Keeps}
 use Rattle.query_alone.proofs.Alone.{new-part, new-inside, kept-front, found-all, found-full}
 use Rattle.query_alone.proofs.found_after.Statement.{statement}
@@ -98,7 +98,7 @@ returns c =
     let n = c .before .before .count .given in
     subst (λ x. FoundAfter x (a .certificate .now) (a .allowance) (a .w) (a .answers .now) (g .in-gaps .last .1 .1 .0) (outcomeIs (c .outcome-of .result))) (run-is u)
     (found-all (part-of u) (a .certificate .now) (a .allowance) (a .w) (a .answers .now) (g .in-gaps .last .1 .1 .0) (outcomeIs (c .outcome-of .result)) (n .0 .0)
-    (subst (λ r. Keeps (foundIn (part-of u) (a .certificate .now) (a .w .bytes)) (a .answers .now) (g .in-gaps .last .1 .1 .0) r) (n .1)
+    (subst (λ r. Keeps (inGapsOf (part-of u) (a .certificate .now) (a .w .bytes)) (a .answers .now) (g .in-gaps .last .1 .1 .0) r) (n .1)
     (kept-front (part-of u) (a .certificate .now) (a .allowance) (a .w) (a .answers .now) (g .in-gaps .last .1 .1 .0) (outcomeIs (c .outcome-of .result)) (g .in-gaps .result) (g .in-gaps .ensures))) (c .outcome-of .ensures))
 
 same-length-2 : tie.Need-same-length-2
@@ -113,7 +113,7 @@ returns-2 c =
     let n = c .before .enum-told .given in
     subst (λ x. FoundAfter x (a .certificate .now) (a .allowance) (a .w) (a .answers .now) (g .in-gaps .last .1 .1 .0) (outcomeIs (c .outcome-of2 .result))) (run-is u)
     (found-full (part-of u) (a .certificate .now) (a .allowance) (a .w) (a .answers .now) (g .in-gaps .last .1 .1 .0) (outcomeIs (c .outcome-of2 .result))
-    (subst (λ r. Keeps (foundIn (part-of u) (a .certificate .now) (a .w .bytes)) (a .answers .now) (g .in-gaps .last .1 .1 .0) r) (n .1)
+    (subst (λ r. Keeps (inGapsOf (part-of u) (a .certificate .now) (a .w .bytes)) (a .answers .now) (g .in-gaps .last .1 .1 .0) r) (n .1)
     (kept-front (part-of u) (a .certificate .now) (a .allowance) (a .w) (a .answers .now) (g .in-gaps .last .1 .1 .0) (outcomeIs (c .outcome-of2 .result)) (g .in-gaps .result) (g .in-gaps .ensures))) (c .outcome-of2 .ensures))
 
 pub found-after-spec : {M : Type 1} → statement M
