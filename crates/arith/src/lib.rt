@@ -1,9 +1,14 @@
-// Small functions on numbers: a number in a wider type, the lesser and the greater of two, what is left of one, half of one, a comparison as a number.
+// Small functions on numbers: a number in a wider type, the lesser and the greater of two, what is left of one, half of one, the binary digits of one, a
+// comparison as a number.
 ghost use mathlib.Core.Path.{_≡_};
 ghost use Prim.Native.Nat.{_-_, _/_, _<_, min};
 ghost use lib.Dec.{ltb};
+ghost use Rattle.model.specs.Compared.{digits};
 ghost use Rattle.model.specs.Runs.{one};
 ghost use Rattle.arith.specs.Order.{lesser, greater};
+
+// The bits of a 32-bit number.
+const WORD_BITS: u32 = 32;
 
 pub fn u64_of_u32(x: u32) -> u64
     ensures { λ r. ⌜ r ≡ x ⌝ }
@@ -78,4 +83,11 @@ pub fn half(x: usize) -> usize
     ensures { λ r. ⌜ r ≡ x / 2 ⌝ }
 {
     x >> 1
+}
+
+// The binary digits of `n`: the least b for which n is below 2 to the power b.
+pub fn digits_of(n: u32) -> u32
+    ensures { λ r. ⌜ r ≡ digits n ⌝ }
+{
+    WORD_BITS - u32::leading_zeros(n)
 }

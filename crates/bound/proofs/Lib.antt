@@ -1,4 +1,4 @@
 pub mod Checks
-pub mod Digits
 pub mod Enough
+pub mod Fits
 pub mod Runs

@@ -1,14 +1,11 @@
-// Binary digits, and the bound on a walk's probes.
+// The bound on a walk's probes.
 ghost use mathlib.Core.Path.{_≡_};
 ghost use Prim.Native.Nat.{_*_, _≤_, _<_};
 ghost use lib.ListN.{length};
-ghost use Rattle.model.specs.Compared.{digits, boundOf};
+ghost use Rattle.model.specs.Compared.{boundOf};
 ghost use Rattle.model.specs.Runs.{one, maskBits, mostRuns};
 ghost use Rattle.bound.specs.Bound.{named, sumFrom, orderChecks, boundBy, probeBound, probeBoundChosen};
 use first_checks::Checked;
-
-// The bits of a 32-bit number.
-const WORD_BITS: u32 = 32;
 
 // The sum of the bounds over the runs, or a refusal with its number and place.
 pub enum Bound {
@@ -16,18 +13,11 @@ pub enum Bound {
     Refused { number: u8, place: usize },
 }
 
-// The binary digits of `n`: the least b for which n is below 2 to the power b.
-pub fn digits_of(n: u32) -> u32
-    ensures { λ r. ⌜ r ≡ digits n ⌝ }
-{
-    WORD_BITS - u32::leading_zeros(n)
-}
-
 // The bound for one run of `n` numbers beside a certificate of `parts` parts.
 fn bound_of(parts: u32, n: u32) -> u64
     ensures { λ r. ⌜ r ≡ boundOf parts n ⌝ }
 {
-    2 * (parts as u64) * (digits_of(n) as u64)
+    2 * (parts as u64) * (arith::digits_of(n) as u64)
 }
 
 // The bound for one run, if the mask names it; else 0.

@@ -120,5 +120,5 @@ pub fn intersect(first: &[u32], second: &[u32], answers: &mut [u32]) -> Kept
     if shorter == 0 {
         return Kept::All(0);
     }
-    partition(first, second, answers, 0, bound::digits_of(shorter as u32))
+    partition(first, second, answers, 0, arith::digits_of(shorter as u32))
 }

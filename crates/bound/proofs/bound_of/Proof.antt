@@ -2,7 +2,7 @@
 use borrow.Author.Needs.{needs}
 use native.Mathlib.Omega.{arith}
 use Rattle.model.specs.Compared.{boundOf}
-use Rattle.bound.proofs.Digits.{bound-fits}
+use Rattle.bound.proofs.Fits.{bound-fits}
 use Rattle.bound.proofs.bound_of.Statement.{statement}
 use Rattle.bound.proofs.bound_of.Tie as tie
 

@@ -7,7 +7,7 @@ use mathlib.Core.Path.{sym}
 use native.Mathlib.Omega.{arith}
 use Rattle.bound.specs.Bound.{named}
 use Rattle.bound.proofs.Checks.{Summed, start, next, fall-refused, last-refused, sum-returned}
-use Rattle.bound.proofs.Digits.{one-fits}
+use Rattle.bound.proofs.Fits.{one-fits}
 use Rattle.bound.proofs.bound_over.Statement.{statement}
 use Rattle.bound.proofs.bound_over.Tie as tie
 

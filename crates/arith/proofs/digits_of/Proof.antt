@@ -1,9 +1,9 @@
 -- `digits_of` meets its contract, by the law at 32 bits. Assumes nothing.
 use lib.Count.{leading-le}
 use native.Mathlib.Omega.{arith}
-use Rattle.bound.proofs.Digits.{digits-leading}
-use Rattle.bound.proofs.digits_of.Statement.{statement}
-use Rattle.bound.proofs.digits_of.Tie as tie
+use Rattle.arith.proofs.Digits.{digits-leading}
+use Rattle.arith.proofs.digits_of.Statement.{statement}
+use Rattle.arith.proofs.digits_of.Tie as tie
 
 sub-result : tie.Need-sub-result
 sub-result c = omega (arith, leading-le 32 (c .args .n))
