@@ -1,5 +1,7 @@
 // Small functions on numbers: a number in a wider type, the lesser and the greater of two, what is left of one, half of one, the binary digits of one, a
 // comparison as a number.
+#![tactic(auto)]
+
 ghost use Rattle.std.specs.Prelude.{◌≡◌, ◌-◌, ◌/◌, ◌<◌, min, ltb};
 ghost use Rattle.model.specs.Compared.{digits};
 ghost use Rattle.model.specs.Runs.{one};

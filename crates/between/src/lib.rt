@@ -1,4 +1,6 @@
 // Bins of one run between two numbers (docs/SPECIFICATION.md, 'Bins between two numbers'): a part of the caller's own list.
+#![tactic(auto)]
+
 ghost use Rattle.std.specs.Prelude.{◌≡◌};
 ghost use Rattle.model.specs.Between.{between};
 ghost use Rattle.between.specs.Places.{Spans};

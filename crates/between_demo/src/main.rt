@@ -1,54 +1,59 @@
 // Prints the parts that `between` returns of a few lists, a line for each: how many numbers the part has, and the numbers.
+#![tactic(auto)]
 
-fn print_part(list: &[u32], first: u32, last: u32) {
+use std::io;
+use std::io::Print;
+
+fn print_part(rt: &HostRuntime, list: &[u32], first: u32, last: u32) -> io::Result<()> {
     let part = between::between(list, first, last);
-    io::print_decimal(1, arith::u64_of_usize(part.len()));
+    rt.print(arith::u64_of_usize(part.len()))?;
     let mut i: usize = 0;
     while i < part.len() {
-        io::write_all(1, b" ");
-        io::print_decimal(1, arith::u64_of_u32(part[i]));
+        rt.print(" ")?;
+        rt.print(arith::u64_of_u32(part[i]))?;
         i += 1;
     }
-    io::write_all(1, b"\n");
+    rt.println("")
 }
 
-fn main() {
+fn main(rt: HostRuntime) -> io::Result<()> {
     let list = [2u32, 5, 9, 12];
     // both bins are in the list, neither is, one is
-    print_part(&list, 5, 9);
-    print_part(&list, 3, 10);
-    print_part(&list, 0, 2);
+    print_part(&rt, &list, 5, 9)?;
+    print_part(&rt, &list, 3, 10)?;
+    print_part(&rt, &list, 0, 2)?;
     // a single bin, the whole list
-    print_part(&list, 9, 9);
-    print_part(&list, 2, 12);
-    print_part(&list, 0, 4294967295);
+    print_part(&rt, &list, 9, 9)?;
+    print_part(&rt, &list, 2, 12)?;
+    print_part(&rt, &list, 0, 4294967295)?;
     // empty: the first above the last, nothing between, past the last number
-    print_part(&list, 9, 5);
-    print_part(&list, 6, 8);
-    print_part(&list, 13, 4294967295);
+    print_part(&rt, &list, 9, 5)?;
+    print_part(&rt, &list, 6, 8)?;
+    print_part(&rt, &list, 13, 4294967295)?;
     // the first and the last bin
     let ends = [1u32, 7, 4294967295];
-    print_part(&ends, 0, 1);
-    print_part(&ends, 4294967295, 4294967295);
-    print_part(&ends, 0, 4294967295);
-    print_part(&ends, 2, 4294967294);
+    print_part(&rt, &ends, 0, 1)?;
+    print_part(&rt, &ends, 4294967295, 4294967295)?;
+    print_part(&rt, &ends, 0, 4294967295)?;
+    print_part(&rt, &ends, 2, 4294967294)?;
     // a 0 at the start is the unmapped mark and never shown, however many there are
     let marked = [0u32, 3, 5];
-    print_part(&marked, 0, 3);
-    print_part(&marked, 0, 0);
-    print_part(&marked, 4, 4294967295);
+    print_part(&rt, &marked, 0, 3)?;
+    print_part(&rt, &marked, 0, 0)?;
+    print_part(&rt, &marked, 4, 4294967295)?;
     let marked_more = [0u32, 0, 0, 3];
-    print_part(&marked_more, 0, 9);
+    print_part(&rt, &marked_more, 0, 9)?;
     let marks_only = [0u32, 0];
-    print_part(&marks_only, 0, 4294967295);
+    print_part(&rt, &marks_only, 0, 4294967295)?;
     // lists that do not rise
     let falling = [2u32, 9, 5, 12];
-    print_part(&falling, 2, 12);
+    print_part(&rt, &falling, 2, 12)?;
     let equal = [3u32, 3];
-    print_part(&equal, 3, 3);
+    print_part(&rt, &equal, 3, 3)?;
     let mark_further_on = [0u32, 0, 5, 0];
-    print_part(&mark_further_on, 0, 5);
+    print_part(&rt, &mark_further_on, 0, 5)?;
     // the empty list
     let nothing = [0u32; 0];
-    print_part(&nothing, 0, 4294967295);
+    print_part(&rt, &nothing, 0, 4294967295)?;
+    Ok(())
 }

@@ -1,4 +1,6 @@
 // The bound on a walk's probes.
+#![tactic(auto)]
+
 ghost use Rattle.std.specs.Prelude.{◌≡◌, ◌*◌, ◌≤◌, ◌<◌, length};
 ghost use Rattle.model.specs.Compared.{bound_of};
 ghost use Rattle.model.specs.Runs.{one, mask_bits, most_runs};

@@ -1,4 +1,6 @@
 // One cursor for each run, which never goes back: the numbers before it are below every bin that is still uncovered.
+#![tactic(auto)]
+
 ghost use Rattle.std.specs.Prelude.{◌≡◌, ◌≤◌, ◌<◌, length};
 ghost use Rattle.model.specs.Runs.{slice, first_bin, past_bin};
 ghost use Rattle.model.specs.Walk.{head_of};

@@ -1,4 +1,6 @@
 // Whether a run that a part names contradicts it: the runs are scanned from their cursors on.
+#![tactic(auto)]
+
 ghost use Rattle.std.specs.Prelude.{◌≡◌, suc, ◌^◌, ◌≤◌, ◌<◌, length};
 ghost use Rattle.model.specs.Refusals.{any_contradicts};
 ghost use Rattle.model.specs.Runs.{runs, most_runs};

@@ -13,7 +13,7 @@ use Rattle.model.proofs.Checking.{Narrow, in_range}
 use Rattle.model.proofs.Encoding.{size_pos, read_back}
 use Rattle.model.proofs.Fewest.{covers_rest}
 use Rattle.model.proofs.Tests.{both, and_true, lt_or_le}
-use Rattle.model.specs.Certificate.{Part, answer, gap, number_of, encode, size_of, Reading, unreadable, read, read_body, read_field, Covers, TruePart}
+use Rattle.model.specs.Certificate.{last_of, Part, answer, gap, number_of, encode, size_of, Reading, unreadable, read, read_body, read_field, Covers, TruePart}
 use Rattle.model.specs.Runs.{Run}
 use Rattle.field_read.specs.Held.{parts_from, parts_held}
 use Rattle.field_read.specs.Reading.{part_of, reading_of, EndsFrom}
@@ -163,6 +163,6 @@ pub held_encode : {rs : List Run} {t b : ℕ} (ps : List Part) → Narrow rs →
     → parts_held (encode ps) ≡ ps
 unfolding encode
 held_encode [] k c h = held_none
-held_encode (p ∷ ps) k c h =
+held_encode {b = b} (p ∷ ps) k c h =
     held_read _ (encode ps) p (read_back p (encode ps) (in_range c (h p (Memᴰ.head refl)) k))
-    ∙ ap (λ l. p ∷ l) (held_encode ps k (covers_rest c) (λ q m. h q (Memᴰ.tail m)))
+    ∙ ap (λ l. p ∷ l) (held_encode {b = suc (last_of p)} ps k (covers_rest c) (λ q m. h q (Memᴰ.tail m)))

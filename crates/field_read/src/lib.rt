@@ -1,4 +1,6 @@
 // The fields of a certificate (docs/SPECIFICATION.md, 'The certificate'), read at an offset of lent bytes.
+#![tactic(auto)]
+
 ghost use Rattle.std.specs.Prelude.{◌≡◌, ◌+◌, ◌≤◌, length, take, drop};
 ghost use Rattle.model.specs.Certificate.{number_of, read_body, read_field};
 ghost use Rattle.field_read.specs.Reading.{reading_of, EndsFrom};

@@ -1,4 +1,6 @@
 // The fields of a certificate (docs/SPECIFICATION.md, 'The certificate'), written at an offset of lent bytes.
+#![tactic(auto)]
+
 ghost use Rattle.std.specs.Prelude.{◌≡◌, ◌∷◌, ◌+◌, ◌≤◌, length};
 ghost use Rattle.model.specs.Certificate.{bytes_of, answer, gap};
 ghost use Rattle.field_write.specs.Stored.{placed, stored, stored_result};

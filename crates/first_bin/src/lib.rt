@@ -1,4 +1,6 @@
 // Where the bins of a run begin: zeros at its start, however many, are passed over.
+#![tactic(auto)]
+
 ghost use Rattle.std.specs.Prelude.{◌≡◌, ◌≤◌, length};
 ghost use Rattle.model.specs.Runs.{first_bin, rank};
 ghost use Rattle.first_bin.specs.Lent.{LentAt, first_bin_at};

@@ -1,5 +1,7 @@
 // The first checks (docs/SPECIFICATION.md, 'The refusals') for questions and checkers, one function for each that several calls make. Those of the
 // lists are two passes over the ends and one over the numbers, those of weights two over their row.
+#![tactic(auto)]
+
 ghost use Rattle.std.specs.Prelude.{not, ◌≡◌, ◌≤◌, eqb, length};
 ghost use Rattle.std.proofs.Math.Option.{none};
 ghost use Rattle.std.specs.Int.Count.{ones};

@@ -1,4 +1,6 @@
 // Line 1 of the input of the program hits: the threshold and the allowance.
+#![tactic(auto)]
+
 ghost use Rattle.std.specs.Prelude.{◌≡◌};
 ghost use Rattle.hits_input.specs.Input.{heading_of};
 ghost use Rattle.hits_heading.specs.Heading.{heading_is};

@@ -1,5 +1,7 @@
 // The limits of the program hits (docs/SPECIFICATION.md, 'The program hits'): the number of bytes that it accepts, and buffers of zeros with the room that it
 // has. What stands in a buffer before is of no account, so the contracts tell only how long it is.
+#![tactic(auto)]
+
 ghost use Rattle.std.specs.Prelude.{◌≡◌, length};
 ghost use Rattle.hits_limits.specs.Limits.{most_bytes, input_runs, input_numbers, answer_room, certificate_room, most_text};
 

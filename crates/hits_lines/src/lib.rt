@@ -1,4 +1,6 @@
 // The lines after line 1 of the input of the program hits: a pass that looks for a fault and counts, and a pass that stores the runs.
+#![tactic(auto)]
+
 ghost use Rattle.std.specs.Prelude.{◌≡◌, ◌≤◌, length};
 ghost use Rattle.hits_limits.specs.Limits.{most_bytes};
 ghost use Rattle.hits_lines.specs.Lines.{scanned, Within, lines_at, Readable, Stored};

@@ -1,5 +1,7 @@
 // The input text of the program hits (docs/SPECIFICATION.md, 'The program hits'): a question, or the first line at fault. A pass over the input looks for
 // a fault; only where there is none does a second pass store the runs.
+#![tactic(auto)]
+
 ghost use Rattle.std.specs.Prelude.{◌≤◌, length};
 ghost use Rattle.hits_limits.specs.Limits.{most_bytes};
 ghost use Rattle.hits_input.specs.Input.{parse_lines, parse};

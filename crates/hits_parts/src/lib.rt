@@ -1,4 +1,6 @@
 // The lines that the program hits prints for the parts of a certificate (docs/SPECIFICATION.md, 'The program hits').
+#![tactic(auto)]
+
 ghost use Rattle.std.specs.Prelude.{◌+◌, ◌≤◌, length};
 ghost use Rattle.field_read.specs.Held.{parts_held};
 ghost use Rattle.field_read.specs.Reading.{part_of};

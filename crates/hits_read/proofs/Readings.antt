@@ -12,7 +12,6 @@ use native.Mathlib.Omega.{arith}
 use mir.Facts.{Fits-nat_abs, to_z-of_z}
 use mir.Syntax.{w64}
 use mir.Val.{SFits, Fits, to_z, of_z}
-use Rattle.libc.specs.Io.{Moved}
 use Rattle.hits_read.specs.Reading.{interrupts, reading_of, step_after, Within}
 use Rattle.hits_read.specs.declared.Reading.{Reading}
 use Rattle.hits_read.specs.declared.Reading.TheVariants.{Bytes, End, Interrupted, Failed}
@@ -48,20 +47,19 @@ unfolding reading_of interrupts
 other_failure got (pos k) e n h = negative got (pos k) Failed e n (rw (ne_eqb k 4 (λ i. h (ap pos i)), reading_of))
 other_failure got (negsuc k) e n h = negative got (negsuc k) Failed e n refl
 
--- what a call may answer fits the buffer
-reads_within : (room : ℕ) (got errno : ℤ) → Moved room got → Within room (reading_of got errno)
+-- what a call may answer fits the buffer: as many bytes as were read, or a failure
+pub bytes_within : (room n : ℕ) (errno : ℤ) → n ≤ room → Within room (reading_of (pos n) errno)
 unfolding reading_of
-reads_within room (pos zero) errno m = tt
-reads_within room (pos (suc n)) errno m = (omega arith, m)
-reads_within room (negsuc n) errno m = failed (interrupts errno)
+bytes_within room zero errno m = tt
+bytes_within room (suc n) errno m = (omega arith, m)
+
+pub failure_within : (room : ℕ) (errno : ℤ) → Within room (reading_of (negsuc 0) errno)
+unfolding reading_of
+failure_within room errno = failed (interrupts errno)
   where
     failed : (b : Bool) → Within room (elim b [ true ↦ Interrupted | false ↦ Failed ])
     failed true = tt
     failed false = tt
-
--- and so does what is read back from its bits
-pub bits_within : (room : ℕ) (got errno : ℤ) → SFits w64 got → Moved room got → Within room (reading_of (to_z w64 (of_z w64 got)) errno)
-bits_within room got errno f m = rw (to_z-of_z f) (reads_within room got errno m)
 
 -- what fits a buffer fits a larger one
 pub within_more : {room more : ℕ} (r : Reading) → room ≤ more → Within room r → Within more r

@@ -1,7 +1,14 @@
 // Standard input, read to its end or to a read that fails (docs/SPECIFICATION.md, 'The program hits'). What a call's answer means and how reading goes on
 // after it is proved, that reading ends if each call returns, and that what is counted lies within the buffer. No contract can say which bytes a call reads.
+#![tactic(auto)]
+
 ghost use Rattle.std.specs.Prelude.{◌≡◌, ◌-◌, ◌^◌, ◌≤◌, length};
 ghost use Rattle.hits_read.specs.Reading.{reading_of, step_after, Within};
+
+use std::io::Read;
+
+// The errno of a call that was interrupted, C's EINTR.
+const INTERRUPTED: i32 = 4;
 
 // So many times an interrupted read is tried again; the next interruption counts as a failure. Reading is proved to end and nothing says that
 // interruptions do, so there is a bound, too large ever to be reached.
@@ -40,7 +47,7 @@ fn reading_of(got: isize, errno: i32) -> Reading
     if got == 0 {
         return Reading::End;
     }
-    if errno == libc::EINTR {
+    if errno == INTERRUPTED {
         return Reading::Interrupted;
     }
     Reading::Failed
@@ -64,23 +71,24 @@ fn step_after(size: usize, tries: u64, reading: Reading) -> Step
     }
 }
 
-// One read from standard input, into a buffer that has room.
-fn read_once(buf: &mut [u8]) -> Reading
+// One read from the input, into a buffer that has room.
+fn read_once<R: Read>(input: &mut R, buf: &mut [u8]) -> Reading
     ensures { Within (length buf.old) result }
 {
-    let got = libc::read(libc::STDIN_FILENO, buf);
-    let errno = os::errno();
-    reading_of(got, errno)
+    match input.read(buf) {
+        Ok(size) => reading_of(size as isize, 0),
+        Err(error) => reading_of(-1, error.raw_os_error().unwrap_or(0)),
+    }
 }
 
 // Reads until the buffer is full, the input ends or a read fails, and puts what is read at the front of the buffer.
-pub fn read_input(buf: &mut [u8]) -> Received
+pub fn read_input<R: Read>(input: &mut R, buf: &mut [u8]) -> Received
     ensures { result.size ≤ length buf.new }
 {
     let mut size: usize = 0;
     let mut tries = MOST_TRIES;
     while size < buf.len() {
-        let reading = read_once(&mut buf[size..]);
+        let reading = read_once(input, &mut buf[size..]);
         match step_after(size, tries, reading) {
             Step::On(next, left) => {
                 size = next;

@@ -1,4 +1,6 @@
 // A further line of the input of the program hits: how many numbers its run has, and the numbers stored in a lent row.
+#![tactic(auto)]
+
 ghost use Rattle.std.specs.Prelude.{◌≡◌, ◌+◌, ◌≤◌, length};
 ghost use Rattle.std.proofs.lemmas.List.Edits.{sets};
 ghost use Rattle.hits_input.specs.Input.{run_of};

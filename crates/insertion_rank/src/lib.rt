@@ -1,4 +1,6 @@
 // Where a number stands in a list in order, Barbay and Kenyon's insertion rank less one, and the place after it.
+#![tactic(auto)]
+
 ghost use Rattle.std.specs.Prelude.{◌≡◌, ◌+◌, drop};
 ghost use Rattle.model.specs.Rows.{Ordered};
 ghost use Rattle.model.specs.Runs.{rank, one};

@@ -1,4 +1,6 @@
 // A section of an LCOV tracefile, found by its index.
+#![tactic(auto)]
+
 ghost use Rattle.std.specs.Prelude.{◌≡◌};
 ghost use Rattle.lcov_form.specs.Reading.{section_of};
 ghost use Rattle.lcov_find.specs.Places.{section_at};

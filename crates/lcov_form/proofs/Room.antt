@@ -15,7 +15,7 @@ use Rattle.text_match.specs.Match.{begins}
 use Rattle.text_read.proofs.Pieces.{until_le}
 use Rattle.text_read.specs.Numbers.{number, value}
 use Rattle.text_read.specs.Pieces.{on_first, split, until}
-use Rattle.lcov_form.specs.Form.{Line, lines_from, lines, opens, closes, Section, unclosed, ◌andThen◌, section, sections, Record, covered, malformed, passed_over, counted, values, record_of}
+use Rattle.lcov_form.specs.Form.{Line, lines_from, lines, opens, closes, Section, unclosed, ◌and_then◌, section, sections, Record, covered, malformed, passed_over, counted, values, record_of}
 use Rattle.lcov_form.specs.Reading.{covered_in, section_of}
 use Rattle.lcov_form.proofs.Records.{data_record, other_record, piece, one_value, two_values}
 use Rattle.lcov_form.proofs.Steps.{record_is}

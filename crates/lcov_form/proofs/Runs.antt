@@ -13,7 +13,7 @@ use Rattle.model.specs.Runs.{first_bin, from, unrisen_after, unrisen, unrisen_ru
 use Rattle.model.proofs.FirstChecks.{after_next}
 use Rattle.model.proofs.From.{from_nil}
 use Rattle.model.proofs.Zeros.{others_kept, others_checked}
-use Rattle.lcov_form.specs.Form.{Line, Section, ◌andThen◌, covered, passed_over, record_of}
+use Rattle.lcov_form.specs.Form.{Line, Section, ◌and_then◌, covered, passed_over, record_of}
 use Rattle.lcov_form.specs.Reading.{stop, write, read_from, covered_in}
 use Rattle.lcov_form.proofs.Steps.{by_lines}
 

@@ -5,7 +5,7 @@ use mathlib.Core.Logic.{◌⊎◌, inl, inr, ⊎_elim}
 use mathlib.Core.Path.{◌≡◌, refl, subst⁻¹}
 use Rattle.model.proofs.Tests.{lt_or_le}
 use Rattle.model.specs.Refusals.{passed, refusal}
-use Rattle.lcov_form.specs.Form.{Line, Section, closed, unclosed, ◌andThen◌, Record, covered, malformed, passed_over, record_of}
+use Rattle.lcov_form.specs.Form.{Line, Section, closed, unclosed, ◌and_then◌, Record, covered, malformed, passed_over, record_of}
 use Rattle.lcov_form.specs.Reading.{Reading, stop, write, read_from}
 
 module _ (size room n last : ℕ) (line : Line) (rest : Section) where

@@ -27,11 +27,11 @@ unfoldable pub closes : List ℕ → Bool
 closes text = same (bytes "end_of_record") text
 
 -- A section: the lines after the one that opens it, up to the one that closes it; or up to the end of the file, and its end is missing.
-infixr 20 ◌andThen◌
+infixr 20 ◌and_then◌
 pub data Section : Type 0 where
   closed : Section
   unclosed : Section
-  ◌andThen◌ : (line : Line) (rest : Section) → Section
+  ◌and_then◌ : (line : Line) (rest : Section) → Section
 
 unfoldable pub section : List Line → Section
 section [] = unclosed

@@ -2,7 +2,7 @@
 use Rattle.std.specs.Prelude.{ℕ, suc, true, false, List, [], ◌∷◌, leb, length, get_or}
 use Rattle.model.specs.Refusals.{Check, passed, refusal, over}
 use Rattle.row_fill.specs.Filling.{Filling}
-use Rattle.lcov_form.specs.Form.{lines, Section, closed, unclosed, ◌andThen◌, sections, covered, malformed, passed_over, record_of}
+use Rattle.lcov_form.specs.Form.{lines, Section, closed, unclosed, ◌and_then◌, sections, covered, malformed, passed_over, record_of}
 
 -- One section becomes one run: the line number of each `DA:` record whose count is above 0, in the order met.
 unfoldable pub covered_in : Section → List ℕ

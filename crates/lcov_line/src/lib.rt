@@ -1,4 +1,6 @@
 // A line of an LCOV tracefile: whether it opens or closes a section, and in a section the line number that a `DA:` record covers.
+#![tactic(auto)]
+
 ghost use Rattle.std.specs.Prelude.{◌≡◌, ◌<◌, take};
 ghost use Rattle.std.proofs.Math.Option.{some};
 ghost use Rattle.lcov_form.specs.Form.{opens, closes, counted, record_of, values};

@@ -9,7 +9,7 @@ use native.Mathlib.Numerals.{add-one}
 use native.Mathlib.Omega.{arith}
 use Rattle.model.proofs.Buffers.{over_sets}
 use Rattle.model.specs.Refusals.{passed, refusal}
-use Rattle.lcov_form.specs.Form.{closes, closed, ◌andThen◌, section, covered, malformed, passed_over, record_of}
+use Rattle.lcov_form.specs.Form.{closes, closed, ◌and_then◌, section, covered, malformed, passed_over, record_of}
 use Rattle.lcov_form.specs.Reading.{Reading, stop, write, read_from, result_of}
 use Rattle.lcov_form.proofs.Steps.{line_malformed, line_passed, line_unrisen, line_full, line_covered}
 use Rattle.lcov_find.specs.Places.{section_at}

@@ -1,4 +1,5 @@
 // The limits (docs/SPECIFICATION.md, 'The limits'), each under one name.
+#![tactic(auto)]
 
 // A question has at most so many runs.
 pub const MOST_RUNS: usize = 64;

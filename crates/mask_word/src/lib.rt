@@ -1,5 +1,7 @@
 // A word of a mask, whose runs are gone through one by one: the lowest run and the highest, and the word without it. A word carries its base, so that what goes over a
 // word's runs serves every word of a mask.
+#![tactic(auto)]
+
 ghost use Rattle.std.specs.Prelude.{◌≡◌, ◌+◌, ◌*◌, ◌^◌, ◌≤◌, ◌<◌, ltb};
 ghost use Rattle.mask_word.specs.Runs.{word_is, Lowest, LowestGone, Highest, HighestGone};
 

@@ -34,7 +34,7 @@ unfolding at from_run
 ascending_at f ascending_nil = ascending_nil
 ascending_at f (ascending_cons e l) = ascending_cons e (ascending_at f l)
 
-pub mem_at : (f : ℕ) {rs : List Run} {r : Run} → Memᴰ r rs → Memᴰ (from_run f r) (at f rs)
+pub mem_at : (f : ℕ) {r : Run} {rs : List Run} → Memᴰ r rs → Memᴰ (from_run f r) (at f rs)
 unfolding at
 mem_at f (Memᴰ.head e) = Memᴰ.head (ap (from_run f) e)
 mem_at f (Memᴰ.tail m) = Memᴰ.tail (mem_at f m)

@@ -1,4 +1,6 @@
 // A pair of runs (docs/SPECIFICATION.md, 'A pair of runs'): which bins both have, by mutual partition.
+#![tactic(auto)]
+
 ghost use Rattle.std.specs.Prelude.{length, ◌≡◌};
 ghost use Rattle.first_bin.specs.Lent.{LentAt};
 ghost use Rattle.first_checks.specs.Checked.{check_of};

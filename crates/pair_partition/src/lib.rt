@@ -1,4 +1,6 @@
 // The bins that two runs have in common, by mutual partition (docs/SPECIFICATION.md, 'A pair of runs').
+#![tactic(auto)]
+
 ghost use Rattle.std.specs.Prelude.{◌++◌, ◌≤◌, min, length, take};
 ghost use Rattle.model.specs.Compared.{digits};
 ghost use Rattle.model.specs.Rows.{Rise};
@@ -10,14 +12,14 @@ ghost use Rattle.row_fill.specs.Keeps.{Keeps};
 use row_fill::Kept;
 
 // Where a list is split at a pivot: its numbers before the place `below` are below the pivot, those from the place `above` on are above it.
-#[derive(Drop)]
+#[derive(Clone, Copy)]
 struct Places {
     below: usize,
     above: usize,
 }
 
 // Where both lists are.
-#[derive(Drop)]
+#[derive(Clone, Copy)]
 struct Split {
     pivot: u32,
     first: Places,

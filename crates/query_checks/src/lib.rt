@@ -1,5 +1,7 @@
 // The first checks of a call with many questions (docs/SPECIFICATION.md, 'Many questions'): all are made before the first walk. One pass over the numbers,
 // however many questions there are.
+#![tactic(auto)]
+
 ghost use Rattle.std.specs.Prelude.{◌≡◌, ◌≤◌, length};
 ghost use Rattle.model.specs.Many.{rows_check, question_checks, many_checks};
 ghost use Rattle.model.specs.Refusals.{◌then◌, count_check, list_checks};

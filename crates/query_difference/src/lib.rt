@@ -1,5 +1,7 @@
 // The bins of a run that lie in the gaps of a certificate (docs/SPECIFICATION.md, 'What one run found alone'): one pass over the run and the certificate's
 // fields together.
+#![tactic(auto)]
+
 ghost use Rattle.std.specs.Prelude.{◌≤◌, length, take, drop};
 ghost use Rattle.field_read.specs.Held.{parts_held};
 ghost use Rattle.row_fill.specs.Keeps.{Keeps};

@@ -1,4 +1,5 @@
 // The questions of a call one after another (docs/SPECIFICATION.md, 'Many questions'), each with what those before it left of the allowance and the buffers.
+#![tactic(auto)]
 ghost use Rattle.std.specs.Prelude.{◌≡◌, ◌∷◌, [], ◌+◌, ◌*◌, ◌≤◌, length};
 ghost use Rattle.field_write.specs.Stored.{placed};
 ghost use Rattle.query_each.specs.Questions.{Fitted, Rows, Asks, Answers};
@@ -9,7 +10,7 @@ ghost use Rattle.walk_state.specs.Moves.{PlacedAt};
 use walk_rounds::End;
 
 // What the questions so far have written, and the tally of the call's probes (walk_tally).
-#[derive(Drop)]
+#[derive(Clone, Copy)]
 pub struct Totals {
     pub answers: usize,
     pub parts: usize,

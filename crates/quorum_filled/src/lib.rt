@@ -1,4 +1,6 @@
 // What a call came to that fills a lent row of numbers, as a row of 64-bit numbers, as the C boundary returns it.
+#![tactic(auto)]
+
 ghost use Rattle.std.specs.Prelude.{◌≡◌};
 ghost use Rattle.row_fill.specs.Filling.{check_is, count_is};
 ghost use Rattle.quorum_filled.specs.Rows.{filled_row};

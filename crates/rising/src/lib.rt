@@ -1,4 +1,6 @@
 // Whether a run rises after the zeros at its start: the place of the first number that is not above the one before. One pass, a block of numbers at a time.
+#![tactic(auto)]
+
 ghost use Rattle.std.specs.Prelude.{◌≡◌, ◌+◌, ◌≤◌, ◌<◌, length, leb};
 ghost use Rattle.model.specs.Runs.{first_bin, rank, one, unrisen, unrisen_run};
 ghost use Rattle.rising.specs.Rising.{block, falls_in, RisenTo};

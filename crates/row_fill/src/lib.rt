@@ -1,4 +1,5 @@
 // Numbers written into a lent row one after another, and what a call returns that fills one. No code.
+#![tactic(auto)]
 
 // How many were written; or one more was due in a full row.
 #[derive(Drop)]

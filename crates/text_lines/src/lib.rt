@@ -1,4 +1,6 @@
 // Lines of text: a word and numbers, laid into a lent buffer.
+#![tactic(auto)]
+
 ghost use Rattle.std.specs.Prelude.{◌∷◌, [], ◌+◌, ◌≤◌, length};
 ghost use Rattle.text_write.specs.Decimal.{decimal};
 ghost use Rattle.text_write.specs.Laying.{Lays};

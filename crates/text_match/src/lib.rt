@@ -1,4 +1,6 @@
 // Whether a text begins with another, and whether it is just that.
+#![tactic(auto)]
+
 ghost use Rattle.std.specs.Prelude.{◌≡◌};
 ghost use Rattle.text_match.specs.Match.{begins, same};
 

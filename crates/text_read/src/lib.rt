@@ -1,4 +1,6 @@
 // Text as bytes, read: the pieces between separators, and a piece as a decimal number.
+#![tactic(auto)]
+
 ghost use Rattle.std.specs.Prelude.{◌≡◌, ◌+◌, ◌≤◌, length, drop};
 ghost use Rattle.text_read.specs.Pieces.{until};
 ghost use Rattle.text_read.specs.Numbers.{Leads, digit_count, is_digit, number, word_is};

@@ -1,4 +1,6 @@
 // Text as bytes, written: words and numbers in decimal, laid into a lent buffer one after another.
+#![tactic(auto)]
+
 ghost use Rattle.std.specs.Prelude.{◌∷◌, [], ◌+◌, ◌≤◌, length};
 ghost use Rattle.text_write.specs.Laying.{Lays};
 ghost use Rattle.text_write.specs.Decimal.{decimal};

@@ -1,4 +1,6 @@
 // A row of keys in rising order, kept at the end of a lent slice, from `start` on, as it is read. A key is head × 256 + run.
+#![tactic(auto)]
+
 ghost use Rattle.std.specs.Prelude.{◌≡◌, ◌+◌, ◌*◌, ◌^◌, ◌≤◌, ◌<◌, length, take, drop};
 ghost use Rattle.walk_keys.specs.Row.{below_count, sum_of, label_sum, Labels, nth_head, key_weight, Reaches, HaveWeights};
 ghost use Rattle.model.specs.Runs.{mask_bits, most_runs};

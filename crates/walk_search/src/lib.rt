@@ -1,5 +1,7 @@
 // The search (docs/SPECIFICATION.md, 'The search') in the numbers of one run from its position on, with a tally of probes (walk_tally), which tells the doubling
 // and the halving probes that it makes. At most 2 × digits probes.
+#![tactic(auto)]
+
 ghost use Rattle.std.specs.Prelude.{◌≤◌, ◌<◌, length};
 ghost use Rattle.model.specs.Walk.{doubling, halving, seek};
 ghost use Rattle.walk_tally.specs.Tally.{undoubled};

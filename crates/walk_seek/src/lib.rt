@@ -1,4 +1,6 @@
 // One run searched for v, from its position on, and moved there. The weight still in play (walk_weight) is then right again.
+#![tactic(auto)]
+
 ghost use Rattle.std.specs.Prelude.{◌≡◌, ◌<◌, length, get_or};
 ghost use Rattle.walk_state.specs.Moves.{Placeable};
 ghost use Rattle.walk_state.specs.State.{InPlay};

@@ -1,5 +1,7 @@
 // How a walk's probes are spent, in one 64-bit number: the probes left in its lower half, the halving probes made in its upper half. The doubling probes made are
 // what is then missing of the allowance. (As two numbers, carried through every round, they took up to 3.9 % more instructions.)
+#![tactic(auto)]
+
 ghost use Rattle.std.specs.Prelude.{◌≡◌, ◌+◌, ◌-◌, ◌≤◌, ◌<◌};
 ghost use Rattle.walk_tally.specs.Tally.{left_in, halved_in, undoubled};
 

@@ -1,4 +1,6 @@
 // The weight still in play, which a walk's state carries: what the runs that have a head weigh. It is lowered where a run is left without a number.
+#![tactic(auto)]
+
 ghost use Rattle.std.specs.Prelude.{◌≡◌, ◌+◌, ◌≤◌};
 ghost use Rattle.walk_state.specs.State.{InPlay, lost_at};
 ghost use Rattle.weights.specs.Named.{HasWeight};

@@ -1,4 +1,6 @@
 // The parts that a round writes: the gap before v, the last gap, and an answer, which goes into both buffers or into neither, or into the certificate alone.
+#![tactic(auto)]
+
 ghost use Rattle.std.specs.Prelude.{◌∷◌, [], ◌≡◌, ◌≤◌, ◌<◌, length};
 ghost use Rattle.model.specs.Certificate.{gap};
 ghost use Rattle.model.specs.Walk.{wrote};
@@ -7,7 +9,7 @@ ghost use Rattle.walk_write.specs.Writes.{LastReady, LastGap, Fitted, after_part
 use field_write::Written;
 
 // Where a walk stands: the floor, where the row of keys starts, what is written, the tally of its probes (walk_tally), and the weight still in play (walk_weight).
-#[derive(Drop)]
+#[derive(Clone, Copy)]
 pub struct State {
     pub floor: u32,
     pub start: usize,

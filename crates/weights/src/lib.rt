@@ -1,4 +1,6 @@
 // What runs weigh, by a row with a weight for each run. A row with none stands for runs that weigh 1 each.
+#![tactic(auto)]
+
 ghost use Rattle.std.specs.Prelude.{◌≡◌, ◌^◌, ◌≤◌, ◌<◌, length, get_or};
 ghost use Rattle.std.specs.Int.Bits.{bit_and};
 ghost use Rattle.model.specs.Refusals.{sum_of_weights};

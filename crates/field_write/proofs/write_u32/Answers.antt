@@ -1,0 +1,46 @@
+-- `write_u32` meets its contract: the four stores are the four bytes placed.
+-- Assumes nothing.
+use Prim.Native.Nat.{◌/◌, ◌^◌}
+use borrow.Author.Rules.{rules}
+use lib.Bits.{bit_and}
+use lib.ListN.{length-set}
+use mathlib.Core.List.{◌∷◌}
+use native.Mathlib.Numerals.{towards_suc}
+use native.Mathlib.Omega.{arith}
+use Rattle.field_write.proofs.Bytes.{byte_fits, bytes_from, by_masks}
+use Rattle.field_write.proofs.Placed.{placed_sets}
+use Rattle.field_write.proofs.write_u32.Goals as goal
+
+pub overflow_cast-certificate : goal.overflow_cast-certificate
+overflow_cast-certificate c =
+    byte_fits c.args.x
+
+pub overflow_cast-certificate-2 : goal.overflow_cast-certificate-2
+overflow_cast-certificate-2 c =
+    byte_fits (c.args.x / 2 ^ 8)
+
+pub bounds-certificate-at-2 : goal.bounds-certificate-at-2
+bounds-certificate-at-2 c =
+    simp length-set (omega arith)
+
+pub overflow_cast-certificate-3 : goal.overflow_cast-certificate-3
+overflow_cast-certificate-3 c =
+    byte_fits (c.args.x / 2 ^ 16)
+
+pub bounds-certificate-at-3 : goal.bounds-certificate-at-3
+bounds-certificate-at-3 c =
+    simp length-set (omega arith)
+
+pub overflow_cast-certificate-4 : goal.overflow_cast-certificate-4
+overflow_cast-certificate-4 c =
+    byte_fits (c.args.x / 2 ^ 24)
+
+pub bounds-certificate-at-4 : goal.bounds-certificate-at-4
+bounds-certificate-at-4 c =
+    simp length-set (omega arith)
+
+pub returns : goal.returns
+unfolding bytes_from
+returns c =
+    let a = c.args in
+    rw (by_masks 3 a.x, ← placed_sets (bit_and a.x 255 ∷ bytes_from 8 3 a.x) a.certificate.now a.at (omega arith)) (simp towards_suc)
