@@ -1,4 +1,4 @@
-.PHONY: run claims test bench fmt
+.PHONY: run lib claims test bench fmt
 
 # a question for the program hits: make run INPUT=file
 INPUT = examples/hits/listing.txt
@@ -9,6 +9,10 @@ REPS =
 
 run:
 	@bash scripts/run.sh "$(INPUT)"
+
+# target/staticlib/libquorum.a
+lib:
+	@bash scripts/prove.sh lib quorum
 
 claims:
 	@bash scripts/claims.sh
@@ -21,5 +25,5 @@ bench:
 	@bash scripts/bench.sh "$(ONLY)" "$(REPS)"
 
 fmt:
-	@rt fmt
+	@for crate in crates/*/; do (cd "$$crate" && rt fmt) || exit 1; done
 	@cd rust && cargo fmt

@@ -9,7 +9,7 @@ set -eu
 cd "$(dirname "$0")/.."
 library_dir=${QUORUM_LIB_DIR:-target/staticlib}
 if [ ! -f "$library_dir/libquorum.a" ]; then
-    echo "$library_dir/libquorum.a is missing: run 'rt staticlib quorum'" >&2
+    echo "$library_dir/libquorum.a is missing: run 'make lib'" >&2
     exit 1
 fi
 

@@ -5,6 +5,6 @@ cd "$(dirname "$0")/.."
 words=()
 if [ -n "${1-}" ]; then words+=(--only "$1"); fi
 if [ -n "${2-}" ]; then words+=(--reps "$2"); fi
-bash scripts/prove.sh staticlib quorum
+bash scripts/prove.sh lib quorum
 cd rust
 exec cargo run --release --offline --quiet -p bench -- "${words[@]}"

@@ -5,7 +5,7 @@ set -euo pipefail
 cd "$(dirname "$0")/.."
 page=docs/SPECIFICATION.md
 
-find README.md Makefile crates docs examples include rust scripts -path rust/target -prune -o -type f -print0 | xargs -0 awk -v page="$page" '
+find README.md Makefile crates docs examples include rust scripts \( -path rust/target -o -path 'crates/*/out' \) -prune -o -type f -print0 | xargs -0 awk -v page="$page" '
   FILENAME == page && /^##+ / {
     name = $0
     sub(/^#+ /, "", name)

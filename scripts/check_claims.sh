@@ -11,7 +11,7 @@ set -euo pipefail
 cd "$(dirname "$0")/.."
 page=${1:-docs/CLAIMS.md}
 
-find crates docs examples include rust scripts -path rust/target -prune -o -print | awk -v page="$page" '
+find crates docs examples include rust scripts \( -path rust/target -o -path 'crates/*/out' \) -prune -o -print | awk -v page="$page" '
   function fault(line, text) {
     printf "%s:%d: %s\n", page, line, text >"/dev/stderr"
     faults++
@@ -24,10 +24,10 @@ find crates docs examples include rust scripts -path rust/target -prune -o -prin
     while ((getline line <path) > 0) {
       if (path ~ /\.rt$/) {
         sub(/\/\/.*/, "", line)
-        gsub(/[({;]/, " & ", line)
+        gsub(/[({;<]/, " & ", line)
         count = split(line, word, " ")
         for (i = 1; i < count; i++) {
-          called = word[i] == "fn" && word[i + 2] == "("
+          called = word[i] == "fn" && word[i + 2] ~ /^[(<]$/
           clause = word[i] == "ensures" && word[i + 2] == "{"
           if (called) functions[path, word[i + 1]]
           if (called || clause || word[i] ~ /^(enum|struct)$/) declared[path, word[i + 1]]

@@ -15,7 +15,7 @@ if [ ! -r "$tried" ] || [ -d "$tried" ]; then
   echo "$tried cannot be read" >&2
   exit 1
 fi
-bash scripts/prove.sh check hits
+bash scripts/prove.sh run hits
 
 printed=$(mktemp)
 trap 'rm -f "$printed"' EXIT

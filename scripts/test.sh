@@ -1,11 +1,10 @@
 #!/usr/bin/env bash
-# The whole test: layout, the names in docs/CLAIMS.md and docs/SPECIFICATION.md and the sections that files cite, divisions, proofs with their must-fail edits and
+# The whole test: where definitions lie, the names in docs/CLAIMS.md and docs/SPECIFICATION.md and the sections that files cite, divisions, proofs with their must-fail edits and
 # programs, then the program hits on stored and on many generated inputs, the static library from C and from Rust, and the scripts. The last line is the prover's
 # own tally, printed again only if everything else passed too.
 set -euo pipefail
 cd "$(dirname "$0")/.."
 
-rt fmt --check
 bash scripts/check_layout.sh
 bash scripts/check_claims.sh docs/CLAIMS.md
 bash scripts/check_claims.sh docs/SPECIFICATION.md
@@ -20,9 +19,10 @@ case "$tally" in
   *" passed, 0 failed") ;;
   *) exit 1 ;;
 esac
-bash scripts/check_edits.sh
+bash scripts/check_edits.sh "$log"
 
-rt staticlib quorum
+bash scripts/prove.sh lib quorum
+bash scripts/prove.sh run hits
 sh examples/test.sh
 sh examples/hits/test.sh
 (cd rust && cargo fmt --check && cargo test --release --offline --quiet)

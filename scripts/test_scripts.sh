@@ -83,17 +83,17 @@ division=(bash "$copy/scripts/check_division.sh")
 with crates/walk_search/src/lib.rt 'arith::half(hi - lo)' '(hi - lo) / 2' fails 'halved divides' "${division[@]}"
 with crates/check_cursor/src/lib.rt 'cursor & LAST_PLACE' 'cursor % PLACES' fails 'place_of divides' "${division[@]}"
 with crates/check_cursor/src/lib.rt 'PLACES - 1;' 'PLACES / 2;' fails ': divides: const LAST_PLACE' "${division[@]}"
-with crates/hits/src/main.rt 'fn main() {' 'fn main() ghost { ℕ } { let half = 8 / 2;' fails 'main divides' "${division[@]}"
+with crates/hits/src/main.rt 'fn main(rt: HostRuntime) -> io::Result<()> {' 'fn main(rt: HostRuntime) -> io::Result<()> ghost { ℕ } { let half = 8 / 2;' fails 'main divides' "${division[@]}"
 with crates/text_write/src/lib.rt 'x [/%] 10' 'x \& 10' fails 'put_number is listed and does not divide' "${division[@]}"
 with crates/hits_render/src/lib.rt 'b"refuse",' 'b"refuse,' fails 'it ends in a string' "${division[@]}"
 # a comment, a contract and a string are no code
 with crates/hits_render/src/lib.rt 'b"refuse",' 'b"100% a/b", // a / b' "${division[@]}" >"$work/out"
-with crates/check_cursor/src/lib.rt 'placeOf cursor ⌝' '(cursor % 2) / 3 ⌝' "${division[@]}" >"$work/out"
+with crates/check_cursor/src/lib.rt 'place_of cursor }' '(cursor % 2) / 3 }' "${division[@]}" >"$work/out"
 
 # a crate is not proved: a bin less than the definitions say
-sed -i 's/^lastBin = 4294967295$/lastBin = 4294967294/' "$copy/crates/model/specs/Runs.antt"
+sed -i 's/^last_bin = 4294967295$/last_bin = 4294967294/' "$copy/crates/model/specs/Runs.antt"
 fails 'rt check quorum failed' make -C "$copy" --no-print-directory claims
-fails 'rt check hits failed' make -C "$copy" --no-print-directory run
+fails 'rt run hits failed' make -C "$copy" --no-print-directory run
 
 # the program's text is cut short; an rt that proves nothing stands for the kit's
 cat >"$work/tools/rt" <<'END'
@@ -101,10 +101,10 @@ cat >"$work/tools/rt" <<'END'
 exit 0
 END
 chmod +x "$work/tools/rt"
-mkdir -p "$copy/target/bin"
+mkdir -p "$copy/crates/hits/out"
 answers() { # FORMAT: make run, where the program prints this
-  printf '#!/bin/sh\nprintf "%s"\n' "$1" >"$copy/target/bin/hits"
-  chmod +x "$copy/target/bin/hits"
+  printf '#!/bin/sh\nprintf "%s"\n' "$1" >"$copy/crates/hits/out/hits"
+  chmod +x "$copy/crates/hits/out/hits"
   env PATH="$work/tools:$PATH" make -C "$copy" --no-print-directory run >"$work/out" 2>"$work/err"
 }
 for whole in 'done 2 6 3 0\n' 'gap 1 1 3\ndone 2 6 3 0\n' 'refuse 12 4\n'; do

@@ -8,7 +8,7 @@ cd "$(dirname "$0")/../.."
 program=${QUORUM_HITS:-target/bin/hits}
 case $program in /*) ;; *) program=./$program ;; esac
 if [ ! -x "$program" ]; then
-    echo "$program is missing: run 'rt check hits'" >&2
+    echo "$program is missing: run 'make run'" >&2
     exit 1
 fi
 

@@ -16,7 +16,7 @@ fn main() {
     println!("cargo::rerun-if-changed={}", archive.display());
     if !archive.is_file() {
         println!(
-            "cargo::error={} is missing: run `rt staticlib quorum` in {}, or set QUORUM_LIB_DIR",
+            "cargo::error={} is missing: run `make lib` in {}, or set QUORUM_LIB_DIR",
             archive.display(),
             repository.display()
         );

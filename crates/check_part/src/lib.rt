@@ -1,6 +1,7 @@
 // One part of a certificate checked at the next uncovered bin, by the runs that a mask chooses (docs/SPECIFICATION.md, 'The refusals' and 'Weights'). A row of
 // weights that is empty stands for runs that weigh 1 each.
 #![tactic(auto)]
+
 ghost use Rattle.std.specs.Prelude.{◌≡◌, not, ◌||◌, ◌^◌, ◌<◌, eqb, ltb, length};
 ghost use Rattle.std.specs.Int.Bits.{bit_and};
 ghost use Rattle.model.specs.Certificate.{last_of};

@@ -1,5 +1,6 @@
 // The run of one section of an LCOV tracefile, read line by line into a lent row (docs/SPECIFICATION.md, 'LCOV tracefiles').
 #![tactic(auto)]
+
 ghost use Rattle.std.specs.Prelude.{length};
 ghost use Rattle.lcov_find.specs.Places.{section_at};
 ghost use Rattle.lcov_form.specs.Reading.{read_from, result_of, lcov_run};

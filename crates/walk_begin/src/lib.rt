@@ -1,5 +1,6 @@
 // Where each run's bins begin, and the runs put where a walk begins, with their keys in the row.
 #![tactic(auto)]
+
 ghost use Rattle.std.specs.Prelude.{◌≡◌, map, ◌≤◌, length};
 ghost use Rattle.walk_state.specs.State.{runs_at, Holds};
 ghost use Rattle.model.specs.Runs.{runs, most_runs};

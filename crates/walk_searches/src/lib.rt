@@ -1,5 +1,6 @@
 // The runs whose head is below v searched for v, in rising run number, and their keys put back.
 #![tactic(auto)]
+
 ghost use Rattle.std.specs.Prelude.{◌<◌};
 ghost use Rattle.walk_state.specs.State.{runs_at, InPlay};
 ghost use Rattle.walk_state.specs.Moves.{Searchable, SearchReady};

@@ -1,5 +1,6 @@
 // Runs moved on by one past an answer; their keys are put in the row, and the weight still in play (walk_weight) is then right again.
 #![tactic(auto)]
+
 ghost use Rattle.std.specs.Prelude.{map, ◌≡◌};
 ghost use Rattle.std.specs.Int.Count.{ones};
 ghost use Rattle.walk_state.specs.State.{runs_at, Holds, InPlay};
