@@ -1,6 +1,7 @@
 // The checker: whether a certificate's parts cover all bins in order and are true of the runs, of all, of those that a mask chooses or of all with weights
 // (docs/SPECIFICATION.md, 'The refusals' and 'Weights'). A row of weights that is empty stands for runs that weigh 1 each.
 #![tactic(auto)]
+
 ghost use Rattle.std.specs.Prelude.{◌≡◌, suc, length};
 ghost use Rattle.model.specs.Certificate.{last_of};
 ghost use Rattle.model.specs.Refusals.{invalid, check_from, check, check_chosen, check_weighted};

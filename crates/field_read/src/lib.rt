@@ -6,7 +6,7 @@ ghost use Rattle.model.specs.Certificate.{number_of, read_body, read_field};
 ghost use Rattle.field_read.specs.Reading.{reading_of, EndsFrom};
 
 // One part of a certificate.
-#[derive(Drop)]
+#[derive(Clone, Copy)]
 pub enum Part {
     Answer { value: u32, mask: u64 },
     Gap { first: u32, last: u32, mask: u64 },

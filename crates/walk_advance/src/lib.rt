@@ -1,6 +1,7 @@
 // A round from the head v on up to which the chosen runs weigh enough (docs/SPECIFICATION.md, 'The walk'): the gap before v, the searches for v, and then the
 // answer.
 #![tactic(auto)]
+
 ghost use Rattle.model.specs.Walk.{round, walk};
 ghost use Rattle.walk_state.specs.State.{chosen_at};
 ghost use Rattle.walk_write.specs.Writes.{Fitted};

@@ -1,6 +1,7 @@
 // One round of the walk over the chosen runs (docs/SPECIFICATION.md, 'The walk'): the last gap where the weight still in play is too little, and otherwise a round from
 // the head on up to which the runs weigh enough.
 #![tactic(auto)]
+
 ghost use Rattle.model.specs.Walk.{round, walk};
 ghost use Rattle.walk_state.specs.State.{chosen_at};
 ghost use Rattle.walk_write.specs.Writes.{Fitted};

@@ -1,5 +1,6 @@
 // Rounds of the walk over the chosen runs until one ends it (docs/SPECIFICATION.md, 'The walk').
 #![tactic(auto)]
+
 ghost use Rattle.walk_state.specs.State.{chosen_at};
 ghost use Rattle.walk_write.specs.Writes.{Fitted};
 ghost use Rattle.walk_settle.specs.Turns.{Stands, Chooses};

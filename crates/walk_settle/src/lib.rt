@@ -1,5 +1,6 @@
 // The end of a round (docs/SPECIFICATION.md, 'The walk'): the floor is written as an answer where the runs that hold it weigh enough, and is passed.
 #![tactic(auto)]
+
 ghost use Rattle.std.specs.Prelude.{◌≡◌, ℕ};
 ghost use Rattle.std.specs.Int.Count.{ones};
 ghost use Rattle.model.specs.Runs.{weighted};
