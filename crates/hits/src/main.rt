@@ -1,5 +1,6 @@
 // The program hits: reads a question from standard input and prints its answer (docs/SPECIFICATION.md, 'The program hits').
 #![tactic(auto)]
+
 ghost use Rattle.std.specs.Prelude.{◌≤◌, length};
 ghost use Rattle.hits_limits.specs.Limits.{most_text};
 

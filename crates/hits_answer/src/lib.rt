@@ -1,5 +1,6 @@
 // The text that the program hits prints for an input, in rows that are lent for its question (docs/SPECIFICATION.md, 'The program hits').
 #![tactic(auto)]
+
 ghost use Rattle.std.specs.Prelude.{◌≡◌, ◌≤◌, length};
 ghost use Rattle.hits_render.specs.Text.{Shows};
 ghost use Rattle.hits_limits.specs.Limits.{input_runs, input_numbers, most_text};

@@ -1,5 +1,6 @@
 // The text that the program hits prints for a question (docs/SPECIFICATION.md, 'The program hits').
 #![tactic(auto)]
+
 ghost use Rattle.std.specs.Prelude.{◌≡◌, ◌+◌, ◌*◌, ◌≤◌, length};
 ghost use Rattle.hits_limits.specs.Limits.{line_room, most_text};
 ghost use Rattle.hits_render.specs.Text.{Shows};

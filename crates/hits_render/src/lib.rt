@@ -1,5 +1,6 @@
 // The text that the program hits prints for the outcome of a question and its certificate (docs/SPECIFICATION.md, 'The program hits').
 #![tactic(auto)]
+
 ghost use Rattle.std.specs.Prelude.{◌≡◌, ◌+◌, ◌*◌, ◌≤◌, length};
 ghost use Rattle.hits_limits.specs.Limits.{line_room};
 ghost use Rattle.model.specs.Refusals.{accepted};

@@ -1,5 +1,6 @@
 // The text that the program hits prints for an input, whatever it is (docs/SPECIFICATION.md, 'The program hits').
 #![tactic(auto)]
+
 ghost use Rattle.std.specs.Prelude.{◌≡◌, ◌≤◌, length, take};
 ghost use Rattle.hits_render.specs.Text.{Shows};
 ghost use Rattle.hits_limits.specs.Limits.{most_text};

@@ -1,5 +1,6 @@
 // The question: which bins at least t of the runs hold, or runs that weigh enough, with a certificate (docs/SPECIFICATION.md, 'The walk').
 #![tactic(auto)]
+
 ghost use Rattle.std.specs.Prelude.{◌≡◌, ◌≤◌, length};
 ghost use Rattle.walk_tally.specs.Tally.{undoubled};
 ghost use Rattle.model.specs.Demands.{Demand2, Demand3};

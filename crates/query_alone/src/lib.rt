@@ -1,5 +1,6 @@
 // What one run found alone (docs/SPECIFICATION.md): which bins of run 0, the new test, fewer than t of the other runs have, with the other runs' certificate.
 #![tactic(auto)]
+
 ghost use Rattle.std.specs.Prelude.{◌≡◌, ◌≤◌, length};
 ghost use Rattle.model.specs.Alone.{new_bins, other_runs, alone_checks, walk_without_answers, query_alone};
 ghost use Rattle.model.specs.AloneDemands.{AloneDemand2, AloneDemand3};

@@ -1,5 +1,6 @@
 // The questions of a call one after another (docs/SPECIFICATION.md, 'Many questions'), each with what those before it left of the allowance and the buffers.
 #![tactic(auto)]
+
 ghost use Rattle.std.specs.Prelude.{◌≡◌, ◌∷◌, [], ◌+◌, ◌*◌, ◌≤◌, length};
 ghost use Rattle.field_write.specs.Stored.{placed};
 ghost use Rattle.query_each.specs.Questions.{Fitted, Rows, Asks, Answers};

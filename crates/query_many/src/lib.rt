@@ -1,6 +1,7 @@
 // Many questions over one set of runs (docs/SPECIFICATION.md, 'Many questions'): each chooses runs by a mask and has a threshold of its own; the allowance and
 // the buffers are the call's.
 #![tactic(auto)]
+
 ghost use Rattle.std.specs.Prelude.{◌≡◌, ◌≤◌, length};
 ghost use Rattle.model.specs.Many.{all_passed, many_checks, query_many};
 ghost use Rattle.model.specs.ManyDemands.{ManyDemand2, ManyDemand3};

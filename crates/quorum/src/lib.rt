@@ -1,5 +1,6 @@
 // The C boundary, `include/quorum.h`: each call writes what it returns into a row of 64-bit numbers.
 #![tactic(auto)]
+
 ghost use Rattle.std.specs.Prelude.{◌≡◌};
 ghost use Rattle.model.specs.Alone.{query_alone};
 ghost use Rattle.model.specs.Many.{query_many};

@@ -1,5 +1,6 @@
 // The outcome of a call with many questions as a row of 64-bit numbers, as the C boundary returns it.
 #![tactic(auto)]
+
 ghost use Rattle.std.specs.Prelude.{◌≡◌};
 ghost use Rattle.query_many.specs.Outcomes.{many_outcome_is};
 ghost use Rattle.quorum_many.specs.Rows.{many_row};

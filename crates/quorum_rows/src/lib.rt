@@ -1,5 +1,6 @@
 // A question's outcome as a row of 64-bit numbers, as the C boundary returns it.
 #![tactic(auto)]
+
 ghost use Rattle.std.specs.Prelude.{◌≡◌};
 ghost use Rattle.query.specs.Outcomes.{outcome_is};
 ghost use Rattle.quorum_rows.specs.Outcomes.{outcome_row, written_of};

@@ -1,6 +1,7 @@
 // The walk over chosen runs from its beginning to its end (docs/SPECIFICATION.md, 'The walk'): each of them at its first bin, the weight in play then summed once,
 // then the rounds.
 #![tactic(auto)]
+
 ghost use Rattle.walk_whole.specs.Whole.{Asked, Begins, ComesTo};
 
 use walk_rounds::End;

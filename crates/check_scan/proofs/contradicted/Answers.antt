@@ -113,11 +113,11 @@ returns c =
     let r = c.runs in
     elim c.runs-test.branch [
       | else-runs-test w ↦ (
-          sofar_end a.numbers.now a.ends.now a.held a.first a.last a.mask r.cursors r.rest r.invariant.0 w.runs-test.false,
-          subst (λ x. Cursors a.numbers.now a.ends.now x (suc a.last)) (sym w.cursors-is) r.invariant.0.ready,
-        )
+        sofar_end a.numbers.now a.ends.now a.held a.first a.last a.mask r.cursors r.rest r.invariant.0 w.runs-test.false,
+        subst (λ x. Cursors a.numbers.now a.ends.now x (suc a.last)) (sym w.cursors-is) r.invariant.0.ready,
+      )
       | then-runs-test+then-first-x+then-clashes w ↦ (
-          scan_found w.loop-x.invariant w.if-first-x.true w.clashes.ensures w.if-clashes.true w.runs-test.true,
-          subst (λ x. Cursors a.numbers.now a.ends.now x (suc a.last)) (sym w.cursors-is) w.loop-x.invariant.sofar.ready,
-        )
+        scan_found w.loop-x.invariant w.if-first-x.true w.clashes.ensures w.if-clashes.true w.runs-test.true,
+        subst (λ x. Cursors a.numbers.now a.ends.now x (suc a.last)) (sym w.cursors-is) w.loop-x.invariant.sofar.ready,
+      )
     ]
