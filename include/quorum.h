@@ -26,7 +26,7 @@
  * length is 0: the data() of an empty C++ vector may be null and must not be
  * passed as it is. No row written to may overlap another.
  *
- * Linking: `rt staticlib quorum` makes target/staticlib/libquorum.a, for x86-64
+ * Linking: `make lib` makes target/staticlib/libquorum.a, for x86-64
  * Linux. It uses memcpy and memset of the C library and nothing else:
  *
  *    cc -Iinclude program.c -Ltarget/staticlib -lquorum

@@ -1,0 +1,10 @@
+-- `quorum_query_weighted` returns the outcome of a question with weights as a row. Assumes nothing.
+use mathlib.Core.Path.{ap, ◌∙◌}
+use Rattle.quorum_rows.specs.Outcomes.{outcome_row}
+use borrow.Author.Rules.{rules}
+use Rattle.quorum.proofs.quorum_query_weighted.Goals as goal
+
+pub returns : goal.returns
+returns c =
+    let q = c.query_weighted-outcome.ensures.returns in
+    record { row = c.put_outcome.ensures ∙ ap outcome_row q.outcome_agrees; answered = q.answers_are; certified = q.certificate_is }
