@@ -9,8 +9,8 @@ work=$(mktemp -d)
 trap 'rm -rf "$work"' EXIT
 copy=$work/copy
 mkdir "$copy" "$work/tools"
-cp -R Makefile crates.txt crates docs examples scripts "$copy"
-for tool in awk bash cat dirname make mktemp od rm sed sh tail; do
+tar -cf - --exclude='crates/*/out' Makefile crates.txt crates docs examples scripts | tar -xf - -C "$copy"
+for tool in awk bash cat cp dirname make mkdir mktemp od rm sed sh tail tee; do
   ln -s "$(command -v "$tool")" "$work/tools/$tool"
 done
 
