@@ -3,7 +3,7 @@
 #   model/specs/Walk.antt   a file under crates/, or one from the top in crates/, docs/, examples/, include/, rust/ or scripts/
 #   walk/step_by_two        an edit, crates/walk/must-fail/step_by_two.edit
 #   walk::begin             a function of a crate
-#   enoughHead              a name declared in a file that the same paragraph, list item or table row names; a function names the sources of its crate. A row
+#   enough_head              a name declared in a file that the same paragraph, list item or table row names; a function names the sources of its crate. A row
 #                           whose first cell is empty goes on with the row above
 #   specs/                  a folder from the top, or one that crates have
 # and otherwise code with a space, a dot or an operator in it, which is passed over.
@@ -54,7 +54,7 @@ find crates docs examples include rust scripts \( -path rust/target -o -path 'cr
   # A token in backticks: what stands at a place of its own is looked for at once, a name at the end of its paragraph.
   function token_ends(token, line,    bare, word, path, i, found) {
     bare = token
-    gsub(/′/, "", bare)
+    gsub(/\047/, "", bare)
     if (bare ~ /^[A-Za-z_][A-Za-z0-9_-]*$/) {
       names[++name_count] = token
       lines[name_count] = line

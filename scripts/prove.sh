@@ -1,10 +1,13 @@
 #!/usr/bin/env bash
-# Proves a crate and all below it, and builds it: prove.sh check CRATE proves alone, prove.sh run hits gives target/bin/hits and prove.sh lib quorum
-# target/staticlib/libquorum.a. A line for each crate goes to standard error as soon as it is checked; all that the prover says is in target/log. Fails where rt is
-# missing or does not succeed.
+# Proves a crate and all below it, and builds it, for any x86-64 processor: prove.sh check CRATE proves alone, prove.sh run hits gives target/bin/hits and
+# prove.sh lib quorum target/staticlib/libquorum.a. A line for each crate goes to standard error as soon as it is checked; all that the prover says is in target/log.
+# Fails where rt is missing or does not succeed.
 set -euo pipefail
 cd "$(dirname "$0")/.."
 verb=$1 crate=$2
+words=("$verb")
+# (a library is only proved where nothing is built, so `check` takes no processor)
+if [ "$verb" != check ]; then words+=(--cpu x86-64); fi
 
 if ! command -v rt >/dev/null; then
   echo "rt is missing: the Rattle kit's command has to be on the PATH" >&2
@@ -14,8 +17,8 @@ if [ ! -d target ]; then
   echo "nothing is proved yet: this takes some minutes the first time" >&2
   mkdir target
 fi
-# a program that is run writes its answer to the input that the crate has
-if ! (cd "crates/$crate" && rt "$verb" 2>&1) | tee target/log | sed -un '/^crate /p; /^rt: note/d; /^rt: /p' >&2; then
+# `rt run` runs the program once it is built, here on an empty input
+if ! (cd "crates/$crate" && rt "${words[@]}" 2>&1 </dev/null) | tee target/log | sed -un '/^crate /p; /^rt: note/d; /^rt: /p' >&2; then
   echo "rt $verb $crate failed: target/log has what the prover says" >&2
   exit 1
 fi

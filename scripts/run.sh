@@ -23,7 +23,7 @@ status=0
 target/bin/hits <"$tried" >"$printed" || status=$?
 cat "$printed"
 
-# A program of Rattle has no exit status of its own: its text is whole if the last line begins with done or refuse, and has its end.
+# A refusal is a whole answer too, with status 0: the text is whole if the last line begins with done or refuse, and has its end.
 last_line=$(tail -n 1 "$printed")
 last_byte=$(tail -c 1 "$printed" | od -An -tu1)
 if [ "$status" -ne 0 ] || [ $((last_byte)) -ne 10 ] || ! [[ $last_line =~ ^(done|refuse)\  ]]; then

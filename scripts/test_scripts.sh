@@ -47,7 +47,7 @@ make --no-print-directory claims >"$work/out" 2>"$work/err"
 diff <(head -n 1 "$work/out") <(echo '## The three demands')
 
 # rt is not there
-for target in run claims bench; do
+for target in run lib claims bench; do
   fails 'rt is missing' env PATH="$work/tools" make -C "$copy" --no-print-directory "$target"
 done
 

@@ -1,6 +1,6 @@
 #!/bin/sh
 # Runs the program hits on each stored input and compares what it prints, byte
-# for byte, with the stored output beside it. Takes the program from
+# for byte, with the stored output beside it, and once where it cannot write. Takes the program from
 # QUORUM_HITS or else from target/bin; a relative path is taken from the
 # repository's top.
 set -eu
@@ -30,6 +30,16 @@ for input in examples/hits/*.txt; do
     fi
     runs=$((runs + 1))
 done
+# Where its text cannot be written, it ends with 1 and tells so on standard error.
+if [ -c /dev/full ]; then
+    status=0
+    "$program" <examples/hits/listing.txt 2>"$printed" >/dev/full || status=$?
+    if [ "$status" -ne 1 ] || [ ! -s "$printed" ]; then
+        echo "hits ends with status $status where its text cannot be written" >&2
+        failed=$((failed + 1))
+    fi
+    runs=$((runs + 1))
+fi
 for expected in examples/hits/*.out; do
     if [ ! -f "${expected%.out}.txt" ]; then
         echo "$expected has no input beside it" >&2

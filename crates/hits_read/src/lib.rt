@@ -1,5 +1,5 @@
 // Standard input, read to its end or to a read that fails (docs/SPECIFICATION.md, 'The program hits'). What a call's answer means and how reading goes on
-// after it is proved, that reading ends if each call returns, and that what is counted lies within the buffer. No contract can say which bytes a call reads.
+// after it is proved, that reading ends if each call returns, and that what is counted lies within the buffer. No contract can say which bytes standard input gives.
 #![tactic(auto)]
 
 ghost use Rattle.std.specs.Prelude.{◌≡◌, ◌-◌, ◌^◌, ◌≤◌, length};

@@ -26,7 +26,7 @@ pub fn hits() -> PathBuf {
     let program = repository().join(path);
     assert!(
         program.is_file(),
-        "{} is missing: run `rt check hits`, or set QUORUM_HITS",
+        "{} is missing: run `make run`, or set QUORUM_HITS",
         program.display()
     );
     program
