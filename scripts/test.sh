@@ -1,7 +1,7 @@
 #!/usr/bin/env bash
-# The whole test: where definitions lie, the names in docs/CLAIMS.md and docs/SPECIFICATION.md and the sections that files cite, divisions, proofs with their must-fail edits and
-# programs, then the program hits on stored and on many generated inputs, the static library from C and from Rust, and the scripts. The last line is the prover's
-# own tally, printed again only if everything else passed too.
+# The whole test: where definitions lie, the names in docs/CLAIMS.md and docs/SPECIFICATION.md and the sections that files cite, divisions, proofs with their
+# must-fail edits and programs, then the program hits on stored and on many generated inputs, the static library from C and from Rust, and the scripts. The last line
+# is the prover's own tally, printed again only if everything else passed too.
 set -euo pipefail
 cd "$(dirname "$0")/.."
 

@@ -38,7 +38,6 @@ if [ -c /dev/full ]; then
         echo "hits ends with status $status where its text cannot be written" >&2
         failed=$((failed + 1))
     fi
-    runs=$((runs + 1))
 fi
 for expected in examples/hits/*.out; do
     if [ ! -f "${expected%.out}.txt" ]; then
