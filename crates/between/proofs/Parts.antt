@@ -1,6 +1,6 @@
 -- The part of a list in order between two numbers stands from the rank of the first on, or of the first bin where that is greater, and before the rank of the
 -- number after the last. Assumes nothing.
-use Prim.Native.Nat.{ℕ, suc, ◌+◌, ◌-◌, ◌≤◌, ◌<◌}
+use Prim.Native.Nat.{ℕ, suc, max, ◌+◌, ◌-◌, ◌≤◌, ◌<◌}
 use borrow.Author.Tests.{lt-ltb, le-ltb, le-leb, lt-leb}
 use lib.ListN.{take, drop}
 use mathlib.Core.List.{List, [], ◌∷◌}
@@ -9,8 +9,6 @@ use mathlib.Core.Option.{none, some}
 use mathlib.Core.Path.{◌≡◌, refl, sym, ap, ◌∙◌}
 use native.Mathlib.Omega.{arith}
 use Rattle.model.specs.Rows.{Ordered, ordered_nil, ordered_cons}
-use Rattle.arith.proofs.Order.{greater_below, greater_from}
-use Rattle.arith.specs.Order.{greater}
 use Rattle.model.proofs.From.{from_nil, from_pass, from_stop, rank_nil, rank_pass, rank_stop, rank_le}
 use Rattle.model.proofs.FirstChecks.{run_ordered}
 use Rattle.model.proofs.Ordered.{ordered_from}
@@ -95,17 +93,18 @@ within_least first last b l h (ordered_cons {x = x} {s = s} m r) k =
 
 -- the bins of a list in order from the first to the last are its numbers from the greater of the first and the first bin on
 within_bins : (first last : ℕ) {a : ℕ} (s : List ℕ) → Ordered a s → first ≤ last
-    → (greater first first_bin ≤ last + 1) × (within first last (from first_bin s) ≡ within (greater first first_bin) last s)
+    → (max first first_bin ≤ last + 1) × (within first last (from first_bin s) ≡ within (max first first_bin) last s)
 within_bins first last s r h =
     let f = first_is in
     ⊎_elim
     (λ (q : first < first_bin).
-    rw (greater_below first first_bin q) (
+    let m : max first first_bin ≡ first_bin = omega arith in
+    rw m (
       omega arith,
       within_least first last first_bin (omega arith) (omega arith) (ordered_from first_bin s r) (omega arith)
           ∙ within_passed first_bin last first_bin s (omega arith) (omega arith),
     ))
-    (λ (q : first_bin ≤ first). rw (greater_from first first_bin q) (omega arith, within_passed first last first_bin s (omega arith) q))
+    (λ (q : first_bin ≤ first). let m : max first first_bin ≡ first = omega arith in rw m (omega arith, within_passed first last first_bin s (omega arith) q))
     (lt_or_le first first_bin)
 
 -- a rank grows with its number
@@ -133,12 +132,12 @@ module _ (first last : ℕ) (s : List ℕ) where
   pub spans_none : between first last s ≡ [] → Spans first last s (record { start = 0; end = 0 })
   spans_none e = record { ordered = omega arith; inside = omega arith; part = sym e }
 
-  pub spans_ranks : first ≤ last → unrisen_run 0 s ≡ none → Spans first last s (record { start = rank (greater first first_bin) s; end = rank (last + 1) s })
+  pub spans_ranks : first ≤ last → unrisen_run 0 s ≡ none → Spans first last s (record { start = rank (max first first_bin) s; end = rank (last + 1) s })
   spans_ranks h e =
       let r = run_ordered 0 s e in
       let b = within_bins first last s r h in
       record {
-        ordered = rank_mono (greater first first_bin) (last + 1) s b.0;
+        ordered = rank_mono (max first first_bin) (last + 1) s b.0;
         inside = rank_le (last + 1) s;
-        part = within_part (greater first first_bin) last b.0 r ∙ (sym b.1 ∙ sym (between_risen h e));
+        part = within_part (max first first_bin) last b.0 r ∙ (sym b.1 ∙ sym (between_risen h e));
       }

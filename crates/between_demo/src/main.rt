@@ -4,16 +4,13 @@
 use std::io;
 use std::io::Print;
 
-fn print_part(rt: &HostRuntime, list: &[u32], first: u32, last: u32) -> io::Result<()> {
+fn print_part(rt: &impl Print, list: &[u32], first: u32, last: u32) -> io::Result<()> {
     let part = between::between(list, first, last);
-    rt.print(arith::u64_of_usize(part.len()))?;
-    let mut i: usize = 0;
-    while i < part.len() {
-        rt.print(" ")?;
-        rt.print(arith::u64_of_u32(part[i]))?;
-        i += 1;
+    print!(rt; "{}", part.len())?;
+    for bin in part {
+        print!(rt; " {bin}")?;
     }
-    rt.println("")
+    println!(rt)
 }
 
 fn main(rt: HostRuntime) -> io::Result<()> {
@@ -25,26 +22,26 @@ fn main(rt: HostRuntime) -> io::Result<()> {
     // a single bin, the whole list
     print_part(&rt, &list, 9, 9)?;
     print_part(&rt, &list, 2, 12)?;
-    print_part(&rt, &list, 0, 4294967295)?;
+    print_part(&rt, &list, 0, u32::MAX)?;
     // empty: the first above the last, nothing between, past the last number
     print_part(&rt, &list, 9, 5)?;
     print_part(&rt, &list, 6, 8)?;
-    print_part(&rt, &list, 13, 4294967295)?;
+    print_part(&rt, &list, 13, u32::MAX)?;
     // the first and the last bin
-    let ends = [1u32, 7, 4294967295];
+    let ends = [1u32, 7, u32::MAX];
     print_part(&rt, &ends, 0, 1)?;
-    print_part(&rt, &ends, 4294967295, 4294967295)?;
-    print_part(&rt, &ends, 0, 4294967295)?;
-    print_part(&rt, &ends, 2, 4294967294)?;
+    print_part(&rt, &ends, u32::MAX, u32::MAX)?;
+    print_part(&rt, &ends, 0, u32::MAX)?;
+    print_part(&rt, &ends, 2, u32::MAX - 1)?;
     // a 0 at the start is the unmapped mark and never shown, however many there are
     let marked = [0u32, 3, 5];
     print_part(&rt, &marked, 0, 3)?;
     print_part(&rt, &marked, 0, 0)?;
-    print_part(&rt, &marked, 4, 4294967295)?;
+    print_part(&rt, &marked, 4, u32::MAX)?;
     let marked_more = [0u32, 0, 0, 3];
     print_part(&rt, &marked_more, 0, 9)?;
     let marks_only = [0u32, 0];
-    print_part(&rt, &marks_only, 0, 4294967295)?;
+    print_part(&rt, &marks_only, 0, u32::MAX)?;
     // lists that do not rise
     let falling = [2u32, 9, 5, 12];
     print_part(&rt, &falling, 2, 12)?;
@@ -54,6 +51,6 @@ fn main(rt: HostRuntime) -> io::Result<()> {
     print_part(&rt, &mark_further_on, 0, 5)?;
     // the empty list
     let nothing = [0u32; 0];
-    print_part(&rt, &nothing, 0, 4294967295)?;
+    print_part(&rt, &nothing, 0, u32::MAX)?;
     Ok(())
 }

@@ -10,20 +10,21 @@ use mathlib.Core.Option.{none, some}
 use mathlib.Core.Path.{◌≡◌, refl, ◌∙◌}
 use native.Mathlib.Numerals.{add-one}
 use native.Mathlib.Omega.{arith}
-use Rattle.bound.specs.declared.Bound.TheVariants.{Sum, Refused}
+use Rattle.first_checks.proofs.Order.{checks_in_order}
 use Rattle.model.specs.Compared.{bound_of}
-use Rattle.bound.specs.Bound.{sum_from, order_checks, bound_by}
-use Rattle.model.specs.Refusals.{Check, passed, refusal, ◌then◌, refuse_if, refuse_at, falls_from, last_end}
+use Rattle.bound.specs.Bound.{sum_from, order_checks, Sum, Refused, bound_by}
+use Rattle.model.specs.Refusals.{passed, refusal, ◌then◌, refuse_if, refuse_at, falls_from, last_end}
 use Rattle.model.specs.Runs.{one, most_numbers}
 
--- a check that is refused, or passed, before the others
-pub refused_by : (a b : Check) (sum : ℕ) {n p : ℕ} → a ≡ refusal n p → Refused n p ≡ bound_by (a then b) sum
-unfolding bound_by ◌then◌
-refused_by a b sum e = rw e
+pub by_passed : (sum : ℕ) → bound_by passed sum ≡ Sum sum
+unfolding bound_by
+by_passed sum = refl
 
-pub passed_by : (a b : Check) (sum : ℕ) → a ≡ passed → bound_by b sum ≡ bound_by (a then b) sum
-unfolding ◌then◌
-passed_by a b sum e = rw e
+pub by_refusal : (n p sum : ℕ) → bound_by (refusal n p) sum ≡ Refused n p
+unfolding bound_by
+by_refusal n p sum = refl
+
+pub ruleset bounds = (checks_in_order, by_passed, by_refusal)
 
 -- The state at end i: `before` is the end before it and `sum` the sum over the runs passed.
 pub record Summed (p : ℕ → Bool) (ends : List ℕ) (d sum before i : ℕ) : Type 0 where

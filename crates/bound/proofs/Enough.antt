@@ -7,9 +7,7 @@ use mathlib.Core.Logic.{◌≢◌}
 use mathlib.Core.Path.{◌≡◌, sym, ◌∙◌, subst}
 use native.Mathlib.Nat.{le_trans}
 use native.Mathlib.Omega.{arith}
-use Rattle.bound.specs.declared.Bound.{Bound}
-use Rattle.bound.specs.declared.Bound.TheVariants.{Sum}
-use Rattle.bound.specs.Bound.{probe_bound, probe_bound_chosen}
+use Rattle.bound.specs.Bound.{Bound, Sum, probe_bound, probe_bound_chosen}
 use Rattle.bound.proofs.Runs.{bound_passed, weighted_bound_passed, chosen_bound_passed}
 use Rattle.model.proofs.Alone.{others_chosen, alone_chosen_checks}
 use Rattle.model.proofs.AloneDemands.{alone_demand3}

@@ -10,9 +10,8 @@ use mathlib.Core.Logic.{⊎_elim}
 use mathlib.Core.Path.{◌≡◌, refl, sym, ap, ◌∙◌}
 use native.Mathlib.Nat.{mul-le-mul_left}
 use native.Mathlib.Omega.{arith}
-use Rattle.bound.specs.declared.Bound.TheVariants.{Sum}
 use Rattle.model.specs.Compared.{bound_of, bound_in, bound}
-use Rattle.bound.specs.Bound.{sum_from, every, named, order_checks, end_checks, chosen_end_checks, bound_by, probe_bound, probe_bound_chosen}
+use Rattle.bound.specs.Bound.{Sum, sum_from, every, named, order_checks, end_checks, chosen_end_checks, bound_by, probe_bound, probe_bound_chosen}
 use Rattle.model.proofs.Chosen.{chosen_nil, chosen_in, chosen_out}
 use Rattle.model.proofs.Count.{total_map}
 use Rattle.model.proofs.Digits.{digits_mono}

@@ -1,11 +1,11 @@
 -- The bound on probes, from the ends of the runs alone, and its refusals. A 0 at the start of a run cannot be seen from its ends and is counted with its
 -- numbers. Definitions only.
-use Rattle.std.specs.Prelude.{ℕ, suc, ◌+◌, ◌-◌, ◌*◌, Bool, true, List, [], ◌∷◌, ltb, eqb, length}
-use Rattle.bound.specs.declared.Bound.{Bound}
-use Rattle.bound.specs.declared.Bound.TheVariants.{Sum, Refused}
+use Rattle.std.specs.Prelude.{ℕ, suc, ◌+◌, ◌-◌, ◌*◌, Result, Ok, Err, Bool, true, List, [], ◌∷◌, ltb, eqb, length}
 use Rattle.model.specs.Compared.{bound_of}
 use Rattle.model.specs.Refusals.{Check, passed, refusal, ◌then◌, refuse_if, refuse_at, falls_from, last_end, count_check, mask_check}
 use Rattle.model.specs.Runs.{bit, one, most_numbers}
+use Rattle.refusal.specs.Number.{number_of}
+use Rattle.refusal.specs.declared.Refusal.{Refusal}
 
 -- the sum over those of the runs with these ends that pass a test, the first of them being run i and starting at a
 unfoldable pub sum_from : (ℕ → Bool) → ℕ → ℕ → ℕ → List ℕ → ℕ
@@ -32,6 +32,16 @@ unfoldable pub chosen_end_checks : List ℕ → ℕ → Check
 chosen_end_checks ends m = count_check ends then mask_check (length ends) m 0 then order_checks ends
 
 -- What a call returns: the sum, or the refusal's number and place.
+pub data Bound : Type 0 where
+  Sum : ℕ → Bound
+  Refused : (number place : ℕ) → Bound
+
+-- as the code has it
+abbrev pub bound_is : Result ℕ Refusal → Bound
+bound_is (Ok sum) = Sum sum
+bound_is (Err r) = Refused (number_of r.reason) r.place
+
+-- the sum where the checks are passed
 unfoldable pub bound_by : Check → ℕ → Bound
 bound_by passed sum = Sum sum
 bound_by (refusal n p) sum = Refused n p

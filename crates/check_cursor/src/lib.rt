@@ -42,9 +42,10 @@ pub fn number_at(numbers: &[u32], place: usize, end: usize) -> u64
     ensures { result ≡ head_of (slice numbers.now place end) }
 {
     if place < end {
-        return arith::u64_of_u32(numbers[place]);
+        u64::from(numbers[place])
+    } else {
+        limits::PAST_BIN
     }
-    limits::PAST_BIN
 }
 
 // Puts each run's cursor at its first bin: zeros at its start are passed over here, once for all parts.
@@ -52,13 +53,11 @@ pub fn begin(numbers: &[u32], ends: &[u32], cursors: &mut [u64])
     requires { Begins numbers.now ends.now cursors.old }
     ensures { Cursors numbers.now ends.now cursors.new first_bin }
 {
-    let mut start: usize = 0;
-    let mut i: usize = 0;
-    while i < ends.len() {
-        let end = arith::usize_of_u32(ends[i]);
+    let mut start = 0;
+    for (i, &end) in ends.iter().enumerate() {
+        let end = end as usize;
         let first = first_bin::first_place(numbers, start, end);
         cursors[i] = cursor_at(number_at(numbers, first, end), first);
         start = end;
-        i += 1;
     }
 }

@@ -10,7 +10,6 @@ use mathlib.Core.Logic.{◌≢◌, ⊎_elim}
 use mathlib.Core.Path.{◌≡◌, refl, sym, ap, ap₂, ◌∙◌, subst}
 use native.Mathlib.Omega.{arith}
 use Rattle.field_read.specs.Reading.{part_of}
-use Rattle.field_read.specs.declared.Part as code
 use Rattle.field_read.specs.declared.Part.TheVariants.{Answer, Gap}
 use Rattle.model.proofs.Chosen.{chosen_nil, chosen_in, chosen_out, chosen_mem, chosen_weight, all_chosen_mask}
 use Rattle.model.proofs.Count.{weight_not, weight_none}
@@ -24,17 +23,15 @@ use Rattle.model.specs.Runs.{Run, past_bin, runs, weighted_run, weighted, weight
 use Rattle.weights.proofs.Named.{named_weight_law, only_of}
 use Rattle.weights.specs.Named.{named_weight}
 use Rattle.check_cursor.specs.Cursors.{Cursors}
-use Rattle.check_scan.specs.Scan.{claim}
+use Rattle.check_scan.specs.Scan.{claim, part_is}
+use Rattle.check_scan.specs.declared.Claim.{Claim}
+use Rattle.refusal.specs.declared.Reason.{Reason}
+use Rattle.refusal.specs.declared.Reason.TheVariants.{Order, Names, Contradicted}
+use Rattle.std.specs.Prelude.{Result, Ok, Err}
 use Rattle.check_scan.proofs.Naming.{unnamed}
 use Rattle.check_part.specs.Tested.{chosen_runs, needed, Choice, numbered, Tested, PartChecked}
 
 -- ---- a mask that names only chosen runs
-
-pub misnames_few : (b : Bool) (x y few : ℕ) → b ≡ true → x ≡ y → ltb x few ≡ (not b || ltb y few)
-misnames_few b x y few e h = rw (e, h)
-
-pub misnames_other : (b c : Bool) → b ≡ false → true ≡ (not b || c)
-misnames_other b c e = rw e
 
 named_only : (m c : ℕ) (d b : Bool) → b ≡ (not (eqb (bit_and m c) m) || d) → b ≡ false → bit_and m c ≡ m
 named_only m c d b e h = eqb-true (bit_and m c) m (not-false (eqb (bit_and m c) m) (or_false (not (eqb (bit_and m c) m)) d (sym e ∙ h)).0)
@@ -131,60 +128,64 @@ module _ (numbers ends weights : List ℕ) (c : ℕ) (k : length ends ≤ most_r
 
 -- ---- the tests in order
 
-first_is : (held : Bool) (f l m : ℕ) → first_of (claim held f l m) ≡ f
+first_is : (k : Claim) → first_of (part_is k) ≡ k.first
 unfolding claim first_of
-first_is true f l m = refl
-first_is false f l m = refl
+first_is k = of_claim k.held k.first k.last k.mask
+  where
+    of_claim : (held : Bool) (f l m : ℕ) → first_of (claim held f l m) ≡ f
+    of_claim true f l m = refl
+    of_claim false f l m = refl
 
-module _ (numbers ends weights : List ℕ) (c b : ℕ) (held : Bool) (f l m few : ℕ) (cursors : List ℕ) (el : last_of (claim held f l m) ≡ l) where
-  misplaced_here : misplaced b (claim held f l m) ≡ true → Tested numbers ends weights c b held f l m few cursors 9
+module _ (numbers ends weights : List ℕ) (c b : ℕ) (k : Claim) (few : ℕ) (cursors : List ℕ) (el : last_of (part_is k) ≡ k.last) where
+  misplaced_here : misplaced b (part_is k) ≡ true → Tested numbers ends weights c b k few cursors (Err Order)
   unfolding check_part ◌then◌ refuse_if numbered
-  misplaced_here e = record { refused_by = λ t at h q. rw e; ready = λ z. absurd (omega arith) }
+  misplaced_here e = record { refused_by = λ t at h q. rw e; ready = tt }
 
-  pub other_first : f ≢ b → Tested numbers ends weights c b held f l m few cursors 9
+  pub other_first : k.first ≢ b → Tested numbers ends weights c b k few cursors (Err Order)
   unfolding misplaced
-  other_first n = misplaced_here (rw (first_is held f l m, ne_eqb f b n))
+  other_first n = misplaced_here (rw (first_is k, ne_eqb k.first b n))
 
-  pub other_last : f ≡ b → l < f → Tested numbers ends weights c b held f l m few cursors 9
+  pub other_last : k.first ≡ b → k.last < k.first → Tested numbers ends weights c b k few cursors (Err Order)
   unfolding misplaced
-  other_last e h = misplaced_here (rw (first_is held f l m, el, eq-eqb f b e, lt-ltb l f h))
+  other_last e h = misplaced_here (rw (first_is k, el, eq-eqb k.first b e, lt-ltb k.last k.first h))
 
   -- the part is in its place, and its mask has been tested
-  module _ (n : length ends ≤ most_runs) (w : c < 2 ^ length ends) (e : f ≡ b) (h : f ≤ l) (k : f < past_bin) (x : Bool) (i : x ≡ (not (eqb (bit_and m c) m) || ltb (named_weight weights m) few)) where
-    placed : misplaced b (claim held f l m) ≡ false
+  module _ (n : length ends ≤ most_runs) (w : c < 2 ^ length ends) (e : k.first ≡ b) (h : k.first ≤ k.last) (s : k.first < past_bin) (x : Bool)
+      (i : x ≡ (not (eqb (bit_and k.mask c) k.mask) || ltb (named_weight weights k.mask) few)) where
+    placed : misplaced b (part_is k) ≡ false
     unfolding misplaced
     placed =
         let n : b ≢ past_bin = omega arith in
-        rw (first_is held f l m, el, eq-eqb f b e, le-ltb l f h, ne_eqb b past_bin n)
+        rw (first_is k, el, eq-eqb k.first b e, le-ltb k.last k.first h, ne_eqb b past_bin n)
 
-    pub misnamed_here : x ≡ true → Tested numbers ends weights c b held f l m few cursors 10
+    pub misnamed_here : x ≡ true → Tested numbers ends weights c b k few cursors (Err Names)
     unfolding check_part ◌then◌ refuse_if numbered
     misnamed_here j =
         record {
-          refused_by = λ t at g q. rw (placed, named_is numbers ends weights c n w held f l m few t g q ∙ (sym i ∙ j));
-          ready = λ z. absurd (omega arith);
+          refused_by = λ t at g q. rw (placed, named_is numbers ends weights c n w k.held k.first k.last k.mask few t g q ∙ (sym i ∙ j));
+          ready = tt;
         }
 
-    module _ (j : x ≡ false) (y : Bool) (u : y ≡ any_contradicts (claim held f l m) (runs numbers ends)) where
-      chosen_say : any_contradicts (claim held f l m) (chosen_runs numbers ends weights c) ≡ y
+    module _ (j : x ≡ false) (y : Bool) (u : y ≡ any_contradicts (part_is k) (runs numbers ends)) where
+      chosen_say : any_contradicts (part_is k) (chosen_runs numbers ends weights c) ≡ y
       chosen_say =
-          any_chosen held f l m c (weighted weights (runs numbers ends)) (named_only m c (ltb (named_weight weights m) few) x i j)
-          ∙ (any_weighted (claim held f l m) weights (runs numbers ends) ∙ sym u)
+          any_chosen k.held k.first k.last k.mask c (weighted weights (runs numbers ends)) (named_only k.mask c (ltb (named_weight weights k.mask) few) x i j)
+          ∙ (any_weighted (part_is k) weights (runs numbers ends) ∙ sym u)
 
-      pub contradicted_here : y ≡ true → Tested numbers ends weights c b held f l m few cursors 11
+      pub contradicted_here : y ≡ true → Tested numbers ends weights c b k few cursors (Err Contradicted)
       unfolding check_part ◌then◌ refuse_if numbered
       contradicted_here v =
           record {
-            refused_by = λ t at g q. rw (placed, named_is numbers ends weights c n w held f l m few t g q ∙ (sym i ∙ j), chosen_say ∙ v);
-            ready = λ z. absurd (omega arith);
+            refused_by = λ t at g q. rw (placed, named_is numbers ends weights c n w k.held k.first k.last k.mask few t g q ∙ (sym i ∙ j), chosen_say ∙ v);
+            ready = tt;
           }
 
-      pub passed_here : y ≡ false → Cursors numbers ends cursors (suc l) → Tested numbers ends weights c b held f l m few cursors 0
+      pub passed_here : y ≡ false → Cursors numbers ends cursors (suc k.last) → (v : Unit) → Tested numbers ends weights c b k few cursors (Ok v)
       unfolding check_part ◌then◌ refuse_if numbered
-      passed_here v r =
+      passed_here v r z =
           record {
-            refused_by = λ t at g q. rw (placed, named_is numbers ends weights c n w held f l m few t g q ∙ (sym i ∙ j), chosen_say ∙ v);
-            ready = λ z. subst (λ x. Cursors numbers ends cursors (suc x)) (sym el) r;
+            refused_by = λ t at g q. rw (placed, named_is numbers ends weights c n w k.held k.first k.last k.mask few t g q ∙ (sym i ∙ j), chosen_say ∙ v);
+            ready = subst (λ x. Cursors numbers ends cursors (suc x)) (sym el) r;
           }
 
 -- ---- the code's parts
@@ -197,16 +198,17 @@ pub gap_last : (f l m : ℕ) → last_of (claim false f l m) ≡ l
 unfolding claim last_of
 gap_last f l m = refl
 
-pub answer_checked : (numbers ends weights : List ℕ) (c b v m t total : ℕ) (cursors : List ℕ) (n : ℕ) (q : code.Part) → q ≡ Answer v m
-    → Choice ends weights c t total → Tested numbers ends weights c b true v v m t cursors n → PartChecked numbers ends weights c t b (part_of q) cursors n
+pub answer_checked : (numbers ends weights : List ℕ) (c b v m t total : ℕ) (cursors : List ℕ) (r : Result Unit Reason)
+    → Choice ends weights c t total → Tested numbers ends weights c b (record { first = v; last = v; mask = m; held = true }) t cursors r
+    → PartChecked numbers ends weights c t b (part_of (Answer v m)) cursors r
 unfolding claim needed part_of
-answer_checked numbers ends weights c b v m t total cursors n q e k h =
-    subst (λ x. PartChecked numbers ends weights c t b (part_of x) cursors n) (sym e)
-    (record { refused_by = λ at. h.refused_by t at k.met refl; ready = h.ready })
+answer_checked numbers ends weights c b v m t total cursors r k h =
+    record { refused_by = λ at. h.refused_by t at k.met refl; ready = h.ready }
 
-pub gap_checked : (numbers ends weights : List ℕ) (c b f l m t total : ℕ) (cursors : List ℕ) (n : ℕ) (q : code.Part) → q ≡ Gap f l m
-    → Choice ends weights c t total → Tested numbers ends weights c b false f l m (total - t + 1) cursors n → PartChecked numbers ends weights c t b (part_of q) cursors n
+pub gap_checked : (numbers ends weights : List ℕ) (c b f l m t total : ℕ) (cursors : List ℕ) (r : Result Unit Reason)
+    → Choice ends weights c t total
+    → Tested numbers ends weights c b (record { first = f; last = l; mask = m; held = false }) (total - t + 1) cursors r
+    → PartChecked numbers ends weights c t b (part_of (Gap f l m)) cursors r
 unfolding claim needed part_of
-gap_checked numbers ends weights c b f l m t total cursors n q e k h =
-    subst (λ x. PartChecked numbers ends weights c t b (part_of x) cursors n) (sym e)
-    (record { refused_by = λ at. h.refused_by t at k.met (ap (λ x. x - t + 1) k.all); ready = h.ready })
+gap_checked numbers ends weights c b f l m t total cursors r k h =
+    record { refused_by = λ at. h.refused_by t at k.met (ap (λ x. x - t + 1) k.all); ready = h.ready }

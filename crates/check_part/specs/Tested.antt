@@ -1,11 +1,14 @@
 -- What the check of one part gives. Definitions only.
-use Rattle.std.specs.Prelude.{ℕ, zero, suc, ◌+◌, ◌-◌, ◌^◌, ◌≤◌, ◌<◌, Bool, true, false, List, ◌≡◌, length}
+use Rattle.std.specs.Prelude.{ℕ, suc, ◌+◌, ◌-◌, ◌^◌, ◌≤◌, ◌<◌, Bool, true, false, List, ◌≡◌, length, Result, Ok, Err, OnOk}
 use Rattle.model.specs.Certificate.{Part, last_of}
 use Rattle.model.specs.Refusals as model
 use Rattle.model.specs.Runs.{Run, runs, weighted, chosen}
 use Rattle.weights.specs.Named.{named_weight, Weighs}
 use Rattle.check_cursor.specs.Cursors.{Cursors}
-use Rattle.check_scan.specs.Scan.{claim}
+use Rattle.check_scan.specs.Scan.{part_is}
+use Rattle.check_scan.specs.declared.Claim.{Claim}
+use Rattle.refusal.specs.Number.{number_of}
+use Rattle.refusal.specs.declared.Reason.{Reason}
 
 -- the runs that the mask c chooses, with the weights of a row, each weighing 1 where the row has none
 abbrev pub chosen_runs : List ℕ → List ℕ → List ℕ → ℕ → List Run
@@ -25,19 +28,19 @@ pub record Choice (ends weights : List ℕ) (c t total : ℕ) : Type 0 where
   pub some : 0 < t
   pub met : t ≤ named_weight weights c
 
--- a refusal's number at an offset, 0 where there is none
-unfoldable pub numbered : ℕ → ℕ → model.Check
-numbered zero at = model.passed
-numbered (suc n) at = model.refusal (suc n) at
+-- what a check says, a refusal at an offset
+unfoldable pub numbered : Result Unit Reason → ℕ → model.Check
+numbered (Ok _) at = model.passed
+numbered (Err reason) at = model.refusal (number_of reason) at
 
 -- An answer or a gap tested at the next uncovered bin by the runs that the mask c chooses, `few` being how much those that it names must weigh. After one that
 -- passes, the cursors serve the bins after it.
-pub record Tested (numbers ends weights : List ℕ) (c b : ℕ) (held : Bool) (f l m few : ℕ) (cursors : List ℕ) (number : ℕ) : Type 0 where
-  pub refused_by : (t at : ℕ) → t ≤ named_weight weights c → few ≡ needed (named_weight weights c) t held
-      → model.check_part (chosen_runs numbers ends weights c) t b at (claim held f l m) ≡ numbered number at
-  pub ready : number ≡ 0 → Cursors numbers ends cursors (suc (last_of (claim held f l m)))
+pub record Tested (numbers ends weights : List ℕ) (c b : ℕ) (claim : Claim) (few : ℕ) (cursors : List ℕ) (r : Result Unit Reason) : Type 0 where
+  pub refused_by : (t at : ℕ) → t ≤ named_weight weights c → few ≡ needed (named_weight weights c) t claim.held
+      → model.check_part (chosen_runs numbers ends weights c) t b at (part_is claim) ≡ numbered r at
+  pub ready : OnOk r (Cursors numbers ends cursors (suc (last_of (part_is claim))))
 
 -- the same for a part and a threshold
-pub record PartChecked (numbers ends weights : List ℕ) (c t b : ℕ) (p : Part) (cursors : List ℕ) (number : ℕ) : Type 0 where
-  pub refused_by : (at : ℕ) → model.check_part (chosen_runs numbers ends weights c) t b at p ≡ numbered number at
-  pub ready : number ≡ 0 → Cursors numbers ends cursors (suc (last_of p))
+pub record PartChecked (numbers ends weights : List ℕ) (c t b : ℕ) (p : Part) (cursors : List ℕ) (r : Result Unit Reason) : Type 0 where
+  pub refused_by : (at : ℕ) → model.check_part (chosen_runs numbers ends weights c) t b at p ≡ numbered r at
+  pub ready : OnOk r (Cursors numbers ends cursors (suc (last_of p)))

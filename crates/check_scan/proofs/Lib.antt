@@ -1,4 +1,3 @@
-pub mod Moving
 pub mod Naming
 pub mod Reaching
 pub mod Scanning

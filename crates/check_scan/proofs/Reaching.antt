@@ -1,13 +1,12 @@
 -- The runs whose cursor's bin is not above a bin, and the runs that a part takes up. Assumes nothing.
 use Prim.Native.Nat.{ℕ, zero, suc, ◌+◌, ◌-◌, ◌*◌, ◌/◌, ◌^◌, ◌≤◌, ◌<◌}
 use borrow.Author.Tests.{leb-false, le-leb, lt-leb, le-ltb, lt-ltb}
-use lib.Bits.{bit_and}
 use lib.Dec.{leb, ltb}
 use lib.ListN.{length, get_or, drop, length-drop, drop_of_length-le}
 use lib.Pow.{pow_mono}
 use lib.Seq.{drop-cons}
 use mathlib.Core.Bool.{Bool, true, false}
-use mathlib.Core.List.{List, [], ◌∷◌}
+use mathlib.Core.List.{List, [], ◌∷◌, reverse}
 use mathlib.Core.Logic.{⊎_elim}
 use mathlib.Core.Path.{◌≡◌, refl, sym, ap, ◌∙◌}
 use native.Mathlib.Nat.{pow-suc}
@@ -15,21 +14,23 @@ use native.Mathlib.Omega.{arith}
 use Rattle.model.proofs.Masks.{bit_small, bit_zero, bit_half, bit_of_and}
 use Rattle.model.proofs.Tests.{both, lt_or_le}
 use Rattle.model.specs.Runs.{bit, one}
+use Rattle.std.proofs.lemmas.List.{length-reverse, get_or-reverse, get_or_default}
+use Rattle.std.specs.Int.{from_bool}
 use Rattle.check_cursor.specs.Cursors.{cursor_places, bin_of}
 use Rattle.check_scan.specs.Scan.{reached_of, to_scan}
 
 -- a cursor's bin is not above l where the cursor is below the first one whose bin is
-pub bin_below : (c l m : ℕ) → m ≡ (l + 1) * cursor_places → one (ltb c m) ≡ one (leb (bin_of c) l)
-unfolding bin_of
+bin_below : (c l m : ℕ) → m ≡ (l + 1) * cursor_places → from_bool (ltb c m) ≡ one (leb (bin_of c) l)
+unfolding bin_of one
 bin_below c l m e =
     ⊎_elim
-    (λ (h : c < m). ap one (lt-ltb c m h ∙ sym (le-leb (c / cursor_places) l (omega arith))))
-    (λ (h : m ≤ c). ap one (le-ltb c m h ∙ sym (lt-leb (c / cursor_places) l (omega arith))))
+    (λ (h : c < m). rw (lt-ltb c m h, le-leb (c / cursor_places) l (omega arith)))
+    (λ (h : m ≤ c). rw (le-ltb c m h, lt-leb (c / cursor_places) l (omega arith)))
     (lt_or_le c m)
 
 -- ---- the runs reached
 
-pub one_small : (b : Bool) (x : ℕ) → x ≡ one b → x < 2
+one_small : (b : Bool) (x : ℕ) → x ≡ one b → x < 2
 unfolding one
 one_small true x e = omega arith
 one_small false x e = omega arith
@@ -50,25 +51,39 @@ reached_lt l (c ∷ s) =
     let d : 2 ^ length (c ∷ s) ≡ 2 ^ length s * 2 = pow-suc 2 (length s) in
     rw (reached_cons l c s) (omega arith)
 
--- with a run still to come the mask can be doubled
-pub reached_fits : (l : ℕ) (s : List ℕ) (i m : ℕ) → length s ≤ 64 → 0 < i → m ≡ reached_of l (drop i s) → m < 2 ^ 63
-reached_fits l s i m h k e =
-    let r = reached_lt l (drop i s) in
-    let n = length-drop i s in
-    let p = pow_mono {i = length (drop i s)} {j = 63} (omega arith) in
-    omega arith
-
-pub reached_end : (l : ℕ) (s : List ℕ) → 0 ≡ reached_of l (drop (length s) s)
+reached_end : (l : ℕ) (s : List ℕ) → 0 ≡ reached_of l (drop (length s) s)
 reached_end l s = sym (ap (reached_of l) (drop_of_length-le s {i = length s} (omega arith)) ∙ reached_none l)
 
-pub reached_on : (l : ℕ) (s : List ℕ) (i m x : ℕ) → 0 < i → i ≤ length s → m ≡ reached_of l (drop i s) → x ≡ one (leb (bin_of (get_or s (i - 1) 0)) l)
-    → m * 2 + x ≡ reached_of l (drop (i - 1) s)
-reached_on l s i m x p h e f =
-    let n : suc (i - 1) ≡ i = omega arith in
-    let d = drop-cons s (i - 1) 0 (omega arith) in
-    let g = ap (λ y. reached_of l (drop y s)) n in
-    let c = ap (reached_of l) d ∙ reached_cons l (get_or s (i - 1) 0) (drop (suc (i - 1)) s) in
-    omega arith
+pub reached_start : (l : ℕ) (s : List ℕ) → 0 ≡ reached_of l (drop (length s - 0) s)
+reached_start l s = let n : length s - 0 ≡ length s = omega arith in rw n (reached_end l s)
+
+-- one cursor more, from the last to the first: n are compared already, and the next is c
+module _ (l : ℕ) (s : List ℕ) (n m c : ℕ) (e : m ≡ reached_of l (drop (length s - n) s)) (h : (n < length (reverse s)) × (c ≡ get_or (reverse s) n c)) where
+  below : n < length s
+  below = let k = length-reverse s in omega (arith, h.0)
+
+  -- the mask can be doubled
+  pub reached_fits : length s ≤ 64 → m < 2 ^ 63
+  reached_fits k =
+      let b = below in
+      let r = reached_lt l (drop (length s - n) s) in
+      let d = length-drop (length s - n) s in
+      let p = pow_mono {i = length (drop (length s - n) s)} {j = 63} (omega arith) in
+      omega arith
+
+  pub reached_on : (limit x n' : ℕ) → limit ≡ l + 1 → x ≡ from_bool (ltb c (limit * cursor_places)) → n' ≡ n + 1
+      → m * 2 + x ≡ reached_of l (drop (length s - n') s)
+  reached_on limit x n' q f g =
+      let b = below in
+      let i = length s - n' in
+      let a : suc i ≡ length s - n = omega arith in
+      let w : length s - 1 - n ≡ i = omega arith in
+      let v : c ≡ get_or s i 0 = h.1 ∙ (get_or-reverse s n c b ∙ (ap (λ y. get_or s y c) w ∙ get_or_default s i c 0 (omega arith))) in
+      let d = drop-cons s i 0 (omega arith) in
+      let z = ap (λ y. reached_of l (drop y s)) a in
+      let o = ap (reached_of l) d ∙ reached_cons l (get_or s i 0) (drop (suc i) s) in
+      let u = f ∙ (bin_below c l (limit * cursor_places) (ap (λ y. y * cursor_places) q) ∙ ap (λ y. one (leb (bin_of y) l)) v) in
+      omega arith
 
 pub reached_bit : (l : ℕ) (s : List ℕ) (i : ℕ) → i < length s → bit (reached_of l s) i ≡ one (leb (bin_of (get_or s i 0)) l)
 reached_bit l [] i h = absurd (omega arith)
@@ -83,16 +98,6 @@ reached_bit l (c ∷ s) (suc i) h =
     bit_half (reached_of l (c ∷ s)) i ∙ (ap (λ x. bit x i) d ∙ reached_bit l s i (omega arith))
 
 -- ---- the runs to take up
-
-pub to_scan_held : (held : Bool) (l m : ℕ) (s : List ℕ) → held ≡ true → m ≡ to_scan held l m s
-unfolding to_scan
-to_scan_held true l m s e = refl
-to_scan_held false l m s e = Rattle.model.proofs.Tests.true_false e refl
-
-pub to_scan_gap : (held : Bool) (l m r : ℕ) (s : List ℕ) → held ≡ false → r ≡ reached_of l s → bit_and m r ≡ to_scan held l m s
-unfolding to_scan
-to_scan_gap true l m r s e f = Rattle.model.proofs.Tests.true_false refl e
-to_scan_gap false l m r s e f = ap (bit_and m) f
 
 -- a run that is taken up is named
 pub to_scan_named : (held : Bool) (l m : ℕ) (s : List ℕ) (i : ℕ) → bit (to_scan held l m s) i ≡ 1 → bit m i ≡ 1

@@ -1,9 +1,9 @@
 -- The scan of the runs that a part takes up: over the runs, and over the numbers of one. Assumes nothing.
 use Prim.Native.Nat.{ℕ, suc, ◌+◌, ◌^◌, ◌≤◌, ◌<◌}
-use borrow.Author.Tests.{eq-eqb, ne_eqb}
-use lib.Dec.{eqb}
 use lib.ListN.{length, get_or, set}
 use lib.Seq.{get_or-set_other}
+use borrow.Author.Tests.{eq-eqb, ne_eqb}
+use lib.Dec.{eqb}
 use mathlib.Core.Bool.{Bool, true, false, not}
 use mathlib.Core.List.{List}
 use mathlib.Core.Logic.{⊎_elim, ◌≢◌}
@@ -68,9 +68,9 @@ sofar_end numbers ends held f l m cursors rest s e =
 -- one run less, and its cursor moved
 module _ (numbers ends : List ℕ) (held : Bool) (f l m : ℕ) (cursors : List ℕ) (rest run : ℕ) (s : Sofar numbers ends held f l m cursors rest)
     (n : bit rest run ≡ 1) (h : contradicts (claim held f l m) (run_at numbers ends run) ≡ false) where
-  sofar_on : (rest' : ℕ) → rest' + 2 ^ run ≡ rest → (i w : ℕ) → i ≡ run → Cursors numbers ends (set cursors i w) (suc l)
-      → Sofar numbers ends held f l m (set cursors i w) rest'
-  sofar_on rest' er i w ei c =
+  sofar_on : (rest' : ℕ) → rest' + 2 ^ run ≡ rest → (w : ℕ) → Cursors numbers ends (set cursors run w) (suc l)
+      → Sofar numbers ends held f l m (set cursors run w) rest'
+  sofar_on rest' er w c =
       record {
         ready = c;
         ordered = s.ordered;
@@ -80,7 +80,7 @@ module _ (numbers ends : List ℕ) (held : Bool) (f l m : ℕ) (cursors : List �
         named = λ k q. s.named k (still k q).1;
         behind = λ k q v g.
             s.behind k (still k q).1 v g
-            ∙ (λ y. from v (slice numbers (place_of (sym (get_or-set_other cursors i k w 0 (λ z. (still k q).0 (z ∙ ei))) y)) (get_or ends k 0)));
+            ∙ (λ y. from v (slice numbers (place_of (sym (get_or-set_other cursors run k w 0 (still k q).0) y)) (get_or ends k 0)));
         agreed = λ k j q.
             ⊎_elim
             (λ (z : k ≡ run). subst (λ u. contradicts (claim held f l m) (run_at numbers ends u) ≡ false) (sym z) h)
@@ -101,33 +101,30 @@ module _ (numbers ends : List ℕ) (held : Bool) (f l m : ℕ) (cursors : List �
 
 -- ---- over the numbers of a run of the rest
 
-pub record Scan (numbers ends : List ℕ) (held : Bool) (f l m : ℕ) (cursors : List ℕ) (rest run i end j x : ℕ) : Type 0 where
+pub record Scan (numbers ends : List ℕ) (held : Bool) (f l m : ℕ) (cursors : List ℕ) (rest i end j x : ℕ) : Type 0 where
   pub sofar : Sofar numbers ends held f l m cursors rest
   pub here : Here numbers ends i end f j x
-  pub which : i ≡ run
-  pub of_rest : bit rest run ≡ 1
+  pub of_rest : bit rest i ≡ 1
 
-module _ {numbers ends : List ℕ} {held : Bool} {f l m : ℕ} {cursors : List ℕ} {rest run i : ℕ} (s : Sofar numbers ends held f l m cursors rest)
-    (o : bit rest run ≡ 1) (e : i ≡ run) where
+module _ {numbers ends : List ℕ} {held : Bool} {f l m : ℕ} {cursors : List ℕ} {rest i : ℕ} (s : Sofar numbers ends held f l m cursors rest)
+    (o : bit rest i ≡ 1) where
   pub run_below : i < length ends
-  run_below = subst (λ x. x < length ends) (sym e) (below_only m (length ends) run s.within (s.named run o))
+  run_below = below_only m (length ends) i s.within (s.named i o)
 
   pub scan_start : {end j x : ℕ} → end ≡ get_or ends i 0 → j ≡ place_of (get_or cursors i 0) → x ≡ bin_of (get_or cursors i 0)
-      → Scan numbers ends held f l m cursors rest run i end j x
+      → Scan numbers ends held f l m cursors rest i end j x
   scan_start {end} {j} {x} ee ej ex =
       record {
         sofar = s;
         here =
-            here_start numbers ends cursors i end f j x (suc l) run_below s.ready
-            (subst (λ u. Behind numbers ends cursors u f) (sym e) (s.behind run o)) ee ej ex;
-        which = e;
+            here_start numbers ends cursors i end f j x (suc l) run_below s.ready (s.behind i o) ee ej ex;
         of_rest = o;
       }
 
-module _ {numbers ends : List ℕ} {held : Bool} {f l m : ℕ} {cursors : List ℕ} {rest run i end j x : ℕ}
-    (s : Scan numbers ends held f l m cursors rest run i end j x) where
+module _ {numbers ends : List ℕ} {held : Bool} {f l m : ℕ} {cursors : List ℕ} {rest i end j x : ℕ}
+    (s : Scan numbers ends held f l m cursors rest i end j x) where
   inside : i < length ends
-  inside = run_below s.sofar s.of_rest s.which
+  inside = run_below s.sofar s.of_rest
 
   bin : f ≤ past_bin
   bin = let h = s.sofar.low in omega arith
@@ -135,12 +132,11 @@ module _ {numbers ends : List ℕ} {held : Bool} {f l m : ℕ} {cursors : List �
   pub scan_more : x < f → (j + 1 ≤ end) × (end ≤ length numbers)
   scan_more h = let k = here_more numbers ends i end f j x s.here h bin in (omega arith, s.here.inside)
 
-  pub scan_on : x < f → {x' : ℕ} → x' ≡ head_of (slice numbers (j + 1) end) → Scan numbers ends held f l m cursors rest run i end (j + 1) x'
+  pub scan_on : x < f → {x' : ℕ} → x' ≡ head_of (slice numbers (j + 1) end) → Scan numbers ends held f l m cursors rest i end (j + 1) x'
   scan_on h {x'} e =
       record {
         sofar = s.sofar;
         here = here_on numbers ends i end f j x s.here h bin x' e;
-        which = s.which;
         of_rest = s.of_rest;
       }
 
@@ -151,7 +147,7 @@ module _ {numbers ends : List ℕ} {held : Bool} {f l m : ℕ} {cursors : List �
     said : clash held f l x ≡ contradicts (claim held f l m) (run_at numbers ends i)
     said =
         named_says numbers ends held f l m i x (s.sofar.ready.risen i inside) s.sofar.low s.sofar.high
-        (ap (bit m) s.which ∙ s.sofar.named run s.of_rest) first_is
+        (s.sofar.named i s.of_rest) first_is
 
     pub scan_fits : (x ≤ past_bin) × (j ≤ end) × (end < cursor_places)
     scan_fits =
@@ -164,18 +160,17 @@ module _ {numbers ends : List ℕ} {held : Bool} {f l m : ℕ} {cursors : List �
     pub scan_found : {y : Bool} → y ≡ clash held f l x → y ≡ true → rest ≢ 0 → not (eqb rest 0) ≡ any_contradicts (claim held f l m) (runs numbers ends)
     scan_found ey t n = ap not (ne_eqb rest 0 n) ∙ one_contradicts numbers ends (claim held f l m) i inside (sym said ∙ (sym ey ∙ t))
 
-    pub scan_agrees : {y : Bool} → y ≡ clash held f l x → y ≡ false → (w : ℕ) → (place_of w ≡ j) × (bin_of w ≡ x) → {rest' : ℕ} → rest' + 2 ^ run ≡ rest
+    pub scan_agrees : {y : Bool} → y ≡ clash held f l x → y ≡ false → (w : ℕ) → (place_of w ≡ j) × (bin_of w ≡ x) → {rest' : ℕ} → rest' + 2 ^ i ≡ rest
         → Sofar numbers ends held f l m (set cursors i w) rest'
     scan_agrees ey t w ew {rest'} er =
         let o = s.sofar.ordered in
-        sofar_on numbers ends held f l m cursors rest run s.sofar s.of_rest
-        (subst (λ u. contradicts (claim held f l m) (run_at numbers ends u) ≡ false) s.which (sym said ∙ (sym ey ∙ t))) rest' er i w s.which
+        sofar_on numbers ends held f l m cursors rest i s.sofar s.of_rest (sym said ∙ (sym ey ∙ t)) rest' er w
         (cursors_on numbers ends cursors i end f j x w (suc l) inside s.sofar.ready s.here (omega arith) ew (set cursors i w) refl)
 
 -- ---- a turn of the loop: the number at hand is passed, and one more where that is below f too
 
-module _ {numbers ends : List ℕ} {held : Bool} {f l m : ℕ} {cursors : List ℕ} {rest run i end j x : ℕ}
-    (s : Scan numbers ends held f l m cursors rest run i end j x) (h : x < f) {x' : ℕ} (e : x' ≡ head_of (slice numbers (j + 1) end))
+module _ {numbers ends : List ℕ} {held : Bool} {f l m : ℕ} {cursors : List ℕ} {rest i end j x : ℕ}
+    (s : Scan numbers ends held f l m cursors rest i end j x) (h : x < f) {x' : ℕ} (e : x' ≡ head_of (slice numbers (j + 1) end))
     {n : ℕ} (p : MorePassed x' f n) where
   pub turn_more : (j + 1 + n ≤ end) × (end ≤ length numbers)
   turn_more =
@@ -187,14 +182,14 @@ module _ {numbers ends : List ℕ} {held : Bool} {f l m : ℕ} {cursors : List �
       (omega (arith, k.0), k.1))
       (eq_or_ne n 0)
 
-  pub turn_on : {x'' : ℕ} → x'' ≡ head_of (slice numbers (j + 1 + n) end) → Scan numbers ends held f l m cursors rest run i end (j + 1 + n) x''
+  pub turn_on : {x'' : ℕ} → x'' ≡ head_of (slice numbers (j + 1 + n) end) → Scan numbers ends held f l m cursors rest i end (j + 1 + n) x''
   turn_on {x''} e'' =
       ⊎_elim
       (λ (z : n ≡ 0). at (j + 1) (omega arith) (scan_on s h))
       (λ (z : n ≢ 0). let q = p.most in at (j + 1 + 1) (omega arith) (scan_on (scan_on s h e) (p.below (omega arith))))
       (eq_or_ne n 0)
     where
-      at : (k : ℕ) → j + 1 + n ≡ k → (x'' ≡ head_of (slice numbers k end) → Scan numbers ends held f l m cursors rest run i end k x'')
-          → Scan numbers ends held f l m cursors rest run i end (j + 1 + n) x''
+      at : (k : ℕ) → j + 1 + n ≡ k → (x'' ≡ head_of (slice numbers k end) → Scan numbers ends held f l m cursors rest i end k x'')
+          → Scan numbers ends held f l m cursors rest i end (j + 1 + n) x''
       at k w g =
-          subst (λ u. Scan numbers ends held f l m cursors rest run i end u x'') (sym w) (g (e'' ∙ ap (λ u. head_of (slice numbers u end)) w))
+          subst (λ u. Scan numbers ends held f l m cursors rest i end u x'') (sym w) (g (e'' ∙ ap (λ u. head_of (slice numbers u end)) w))

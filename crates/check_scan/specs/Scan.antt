@@ -4,6 +4,7 @@ use Rattle.std.specs.Int.Bits.{bit_and}
 use Rattle.model.specs.Certificate.{Part, answer, gap}
 use Rattle.model.specs.Runs.{one}
 use Rattle.check_cursor.specs.Cursors.{bin_of}
+use Rattle.check_scan.specs.declared.Claim.{Claim}
 
 -- the mask of the runs whose cursor's bin is not above l
 unfoldable pub reached_of : ℕ → List ℕ → ℕ
@@ -24,6 +25,10 @@ clash false f l h = leb h l
 unfoldable pub claim : Bool → ℕ → ℕ → ℕ → Part
 claim true f l m = answer f m
 claim false f l m = gap f l m
+
+-- the part that the code's claim stands for
+abbrev pub part_is : Claim → Part
+part_is c = claim c.held c.first c.last c.mask
 
 -- one number more is passed, or none; one only where x is below f
 pub record MorePassed (x f n : ℕ) : Type 0 where

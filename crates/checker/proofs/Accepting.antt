@@ -6,7 +6,7 @@ use mathlib.Core.List.{List, []}
 use mathlib.Core.Path.{◌≡◌, sym, ap, ◌∙◌, subst}
 use native.Mathlib.Omega.{arith}
 use Rattle.check_part.proofs.Testing.{all_chosen}
-use Rattle.check_part.specs.Tested.{chosen_runs, Choice}
+use Rattle.check_part.specs.Tested.{chosen_runs}
 use Rattle.model.proofs.Chosen.{chosen_all}
 use Rattle.model.proofs.FirstChecks.{then_second, first_passed, chosen_passed, all_chosen_checks, weighted_passed, weighted_weighs, all_length, all_labelled, every_run}
 use Rattle.model.proofs.Plain.{all_plain}
@@ -15,15 +15,15 @@ use Rattle.model.specs.Demands.{Accepts}
 use Rattle.model.specs.Refusals.{Check, passed, refusal, first_checks, chosen_checks, weighted_checks, Verdict, invalid, check_from, judged}
 use Rattle.model.specs.Runs.{Run, first_bin, runs, weighted, weight_of_all, chosen, most_runs, mask_bits}
 use Rattle.weights.proofs.Named.{named_none}
-use Rattle.weights.specs.Named.{named_weight, Weighs}
+use Rattle.weights.specs.Named.{Weighs}
 use Rattle.checker.specs.Checkable.{Checkable}
 use Rattle.checker.specs.Verdicts.{AcceptedBy}
 
 -- ---- the verdict, by what the first checks give
 
-judged_refused : (c : Check) (rs : List Run) (t : ℕ) (certificate : List ℕ) (n p : ℕ) → c ≡ refusal n p → invalid n p 0 0 ≡ judged c rs t certificate
+pub judged_refused : (c : Check) (rs : List Run) (t : ℕ) (certificate : List ℕ) (n p : ℕ) → refusal n p ≡ c → invalid n p 0 0 ≡ judged c rs t certificate
 unfolding judged
-judged_refused c rs t certificate n p e = rw (e, judged)
+judged_refused c rs t certificate n p e = rw (← e, judged)
 
 judged_passed : (c : Check) (rs : List Run) (t : ℕ) (certificate : List ℕ) → c ≡ passed
     → check_from (length certificate) rs t first_bin 0 certificate ≡ judged c rs t certificate
@@ -34,9 +34,6 @@ judged_passed c rs t certificate e = rw (e, judged)
 module _ (c : Check) (rs : List Run) (t : ℕ) (certificate : List ℕ) (h : c ≡ passed → Accepts rs t certificate (judged c rs t certificate)) (v : Verdict) where
   with_demand : v ≡ judged c rs t certificate → (v ≡ judged c rs t certificate) × AcceptedBy c rs t certificate v
   with_demand e = (e, record { for_every = λ q. subst (λ x. Accepts rs t certificate x) (sym e) (h q) })
-
-  pub refused_first : {n p : ℕ} → c ≡ refusal n p → v ≡ invalid n p 0 0 → (v ≡ judged c rs t certificate) × AcceptedBy c rs t certificate v
-  refused_first {n} {p} e q = with_demand (q ∙ judged_refused c rs t certificate n p e)
 
   pub judged_by : c ≡ passed → (ss : List Run) → ss ≡ rs → v ≡ check_from (length certificate) ss t first_bin 0 certificate
       → (v ≡ judged c rs t certificate) × AcceptedBy c rs t certificate v
@@ -112,11 +109,3 @@ weighted_checkable numbers ends weights wanted e =
       some = p.threshold;
       met = omega arith;
     }
-
--- what the chosen runs weigh
-pub choice : (numbers ends weights : List ℕ) (m t u n : ℕ) → Checkable numbers ends weights m t → u ≡ t → n ≡ named_weight weights m
-    → Choice ends weights m u n
-choice numbers ends weights m t u n c q e =
-    let h = c.met in
-    let s = c.some in
-    record { within = c.within; row = c.row; all = e; some = omega arith; met = omega arith }

@@ -8,9 +8,10 @@ use mathlib.Core.Logic.{◌≢◌}
 use mathlib.Core.Path.{◌≡◌, refl, sym, ap, ap₂, ◌∙◌, subst}
 use native.Mathlib.Omega.{arith}
 use Rattle.field_read.specs.Reading.{part_of, reading_of, EndsFrom}
-use Rattle.field_read.specs.declared.Field as field
-use Rattle.field_read.specs.declared.Field.TheVariants.{Read, Unreadable}
-use Rattle.field_read.specs.declared.Part as code
+use Rattle.field_read.specs.declared.Field.{Field}
+use Rattle.refusal.specs.Number.{number_of}
+use Rattle.refusal.specs.declared.Reason.{Reason}
+use Rattle.std.specs.Prelude.{Result, Ok, Err}
 use Rattle.model.proofs.Checking.{check_read}
 use Rattle.model.proofs.Encoding.{size_pos}
 use Rattle.model.specs.Certificate.{Part, answer, gap, last_of, size_of, unreadable, read, read_field}
@@ -101,62 +102,62 @@ module _ (numbers ends weights : List ℕ) (m t : ℕ) (certificate cursors : Li
       let d = drop-cons certificate at 0 l in
       h.same ∙ (λ i. plus answers parts (check_from (z i) (chosen_runs numbers ends weights m) t bin at (d i)))
 
-  pub along_unreadable : at < length certificate → (x : field.Field) → x ≡ Unreadable → reading_of certificate x ≡ read_field (drop at certificate)
-      → invalid 8 at 0 0 ≡ check_from (length certificate) (chosen_runs numbers ends weights m) t first_bin 0 certificate
-  unfolding reading_of plus
-  along_unreadable l x e r =
-      let d = drop-cons certificate at 0 l in
-      let u : read_field (get_or certificate at 0 ∷ drop (suc at) certificate) ≡ unreadable 8 =
-      ap read_field (sym d) ∙ (sym r ∙ ap (reading_of certificate) e) in
-      sym (step l ∙ ap (plus answers parts) (from_unreadable (length certificate - (parts + 1)) (chosen_runs numbers ends weights m) t bin at (get_or certificate at 0) (drop (suc at) certificate) u))
+  module _ (l : at < length certificate) (x : Result Field Reason) (r : reading_of certificate x ≡ read_field (drop at certificate)) where
+    field_is : read_field (get_or certificate at 0 ∷ drop (suc at) certificate) ≡ reading_of certificate x
+    field_is = ap read_field (sym (drop-cons certificate at 0 l)) ∙ sym r
 
-  readable : at < length certificate → (x : field.Field) (q : code.Part) (next : ℕ) → x ≡ Read q next → reading_of certificate x ≡ read_field (drop at certificate)
-      → read_field (get_or certificate at 0 ∷ drop (suc at) certificate) ≡ read (part_of q) (drop next certificate)
-  unfolding reading_of
-  readable l x q next e r = ap read_field (sym (drop-cons certificate at 0 l)) ∙ (sym r ∙ ap (reading_of certificate) e)
+    pub along_unreadable : (reason : Reason) → x ≡ Err reason → EndsFrom at x → invalid 8 at 0 0 ≡ check_from (length certificate) (chosen_runs numbers ends weights m) t first_bin 0 certificate
+    unfolding reading_of EndsFrom plus
+    along_unreadable reason e d =
+        sym
+        (step l
+        ∙ ap (plus answers parts)
+        (from_unreadable (length certificate - (parts + 1)) (chosen_runs numbers ends weights m) t bin at (get_or certificate at 0) (drop (suc at) certificate)
+        (field_is ∙ (ap (reading_of certificate) e ∙ ap (λ r. unreadable (number_of r)) (subst (λ y. EndsFrom at y) e d)))))
 
-  pub next_is : (x : field.Field) (q : code.Part) (next : ℕ) → x ≡ Read q next → EndsFrom at x → next ≡ at + size_of (part_of q)
-  unfolding EndsFrom
-  next_is x q next e r = subst (λ y. EndsFrom at y) e r
+    module _ (f : Field) (e : x ≡ Ok f) where
+      readable : read_field (get_or certificate at 0 ∷ drop (suc at) certificate) ≡ read (part_of f.part) (drop f.next certificate)
+      unfolding reading_of
+      readable = field_is ∙ ap (reading_of certificate) e
 
-  pub along_refused : at < length certificate → (x : field.Field) (q : code.Part) (next : ℕ) → x ≡ Read q next
-      → reading_of certificate x ≡ read_field (drop at certificate) → (cursors' : List ℕ) (number : ℕ)
-      → PartChecked numbers ends weights m t bin (part_of q) cursors' number → number ≢ 0
-      → invalid number at 0 0 ≡ check_from (length certificate) (chosen_runs numbers ends weights m) t first_bin 0 certificate
-  unfolding plus numbered
-  along_refused l x q next e r cursors' zero c n = absurd (n refl)
-  along_refused l x q next e r cursors' (suc number) c n =
-      sym
-      (step l
-      ∙ ap (plus answers parts)
-      (from_refused (length certificate - (parts + 1)) (chosen_runs numbers ends weights m) t bin at (get_or certificate at 0) (suc number) at (drop (suc at) certificate)
-      (drop next certificate) (part_of q) (readable l x q next e r) (c.refused_by at)))
+      pub next_is : EndsFrom at x → f.next ≡ at + size_of (part_of f.part)
+      unfolding EndsFrom
+      next_is d = subst (λ y. EndsFrom at y) e d
 
-  pub along_on : at < length certificate → (x : field.Field) (q : code.Part) (next : ℕ) → x ≡ Read q next
-      → reading_of certificate x ≡ read_field (drop at certificate) → EndsFrom at x → (cursors' : List ℕ) (number : ℕ)
-      → PartChecked numbers ends weights m t bin (part_of q) cursors' number → number ≡ 0 → (bin' more : ℕ) → bin' ≡ suc (last_of (part_of q))
-      → more ≡ answer_count (part_of q) → Along numbers ends weights m t certificate cursors' bin' next (answers + more) (parts + 1)
-  unfolding numbered
-  along_on l x q next e r d cursors' number c n bin' more eb em =
-      let y = next_is x q next e d in
-      let s = size_pos (part_of q) in
-      let w = answers_few (part_of q) in
-      let o = h.few in
-      let k = h.slow in
-      record {
-        ready = subst (λ z. Cursors numbers ends cursors' z) (sym eb) (c.ready n);
-        same =
-            step l
-            ∙ (ap (plus answers parts)
-            (check_read (length certificate - (parts + 1)) (chosen_runs numbers ends weights m) t bin at (get_or certificate at 0) (drop (suc at) certificate)
-            (drop next certificate) (part_of q) (readable l x q next e r) (c.refused_by at ∙ ap (λ z. numbered z at) n))
-            ∙ (plus_counted answers parts (part_of q) _
-            ∙ (λ i.
-            plus (answers + sym em i) (parts + 1)
-            (check_from (length certificate - (parts + 1)) (chosen_runs numbers ends weights m) t (sym eb i) (sym y i) (drop next certificate)))));
-        few = omega arith;
-        slow = omega arith;
-      }
+      pub along_refused : (cursors' : List ℕ) (reason : Reason) → PartChecked numbers ends weights m t bin (part_of f.part) cursors' (Err reason)
+          → invalid (number_of reason) at 0 0 ≡ check_from (length certificate) (chosen_runs numbers ends weights m) t first_bin 0 certificate
+      unfolding plus numbered
+      along_refused cursors' reason c =
+          sym
+          (step l
+          ∙ ap (plus answers parts)
+          (from_refused (length certificate - (parts + 1)) (chosen_runs numbers ends weights m) t bin at (get_or certificate at 0) (number_of reason) at
+          (drop (suc at) certificate) (drop f.next certificate) (part_of f.part) readable (c.refused_by at)))
+
+      pub along_on : EndsFrom at x → (cursors' : List ℕ) (u : Unit) → PartChecked numbers ends weights m t bin (part_of f.part) cursors' (Ok u)
+          → (bin' more : ℕ) → bin' ≡ suc (last_of (part_of f.part)) → more ≡ answer_count (part_of f.part)
+          → Along numbers ends weights m t certificate cursors' bin' f.next (answers + more) (parts + 1)
+      unfolding numbered
+      along_on d cursors' u c bin' more eb em =
+          let y = next_is d in
+          let s = size_pos (part_of f.part) in
+          let w = answers_few (part_of f.part) in
+          let o = h.few in
+          let k = h.slow in
+          record {
+            ready = subst (λ z. Cursors numbers ends cursors' z) (sym eb) c.ready;
+            same =
+                step l
+                ∙ (ap (plus answers parts)
+                (check_read (length certificate - (parts + 1)) (chosen_runs numbers ends weights m) t bin at (get_or certificate at 0) (drop (suc at) certificate)
+                (drop f.next certificate) (part_of f.part) readable (c.refused_by at))
+                ∙ (plus_counted answers parts (part_of f.part) _
+                ∙ (λ i.
+                plus (answers + sym em i) (parts + 1)
+                (check_from (length certificate - (parts + 1)) (chosen_runs numbers ends weights m) t (sym eb i) (sym y i) (drop f.next certificate)))));
+            few = omega arith;
+            slow = omega arith;
+          }
 
   pub along_valid : length certificate ≤ at → bin ≡ 4294967296 → valid answers parts ≡ check_from (length certificate) (chosen_runs numbers ends weights m) t first_bin 0 certificate
   unfolding plus at_end past_bin

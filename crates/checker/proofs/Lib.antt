@@ -1,3 +1,2 @@
 pub mod Accepting
-pub mod Counts
 pub mod Following

@@ -1,14 +1,15 @@
 -- What the code's verdict means in the numbers of docs/SPECIFICATION.md, 'The refusals', and demand 2 for a call of the checker. Definitions only.
-use Rattle.std.specs.Prelude.{ℕ, List, ◌≡◌}
+use Rattle.std.specs.Prelude.{ℕ, List, ◌≡◌, Result, Ok, Err}
 use Rattle.model.specs.Demands.{Accepts}
 use Rattle.model.specs.Refusals as model
 use Rattle.model.specs.Runs.{Run, runs, weighted, chosen}
-use Rattle.checker.specs.declared.Verdict.{Verdict}
-use Rattle.checker.specs.declared.Verdict.TheVariants.{Valid, Invalid}
+use Rattle.refusal.specs.Number.{number_of}
+use Rattle.refusal.specs.declared.Refusal.{Refusal}
+use Rattle.checker.specs.declared.Counted.{Counted}
 
-abbrev pub verdict_is : Verdict → model.Verdict
-verdict_is (Valid answers parts) = model.valid answers parts
-verdict_is (Invalid number place) = model.invalid number place 0 0
+abbrev pub verdict_is : Result Counted Refusal → model.Verdict
+verdict_is (Ok c) = model.valid c.answers c.parts
+verdict_is (Err r) = model.invalid (number_of r.reason) r.place 0 0
 
 -- demand 2 for the checker, for inputs that pass these first checks
 pub record AcceptedBy (c : model.Check) (rs : List Run) (t : ℕ) (certificate : List ℕ) (v : model.Verdict) : Type 0 where

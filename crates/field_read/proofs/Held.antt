@@ -18,8 +18,9 @@ use Rattle.model.specs.Runs.{Run}
 use Rattle.field_read.specs.Held.{parts_from, parts_held}
 use Rattle.field_read.specs.Reading.{part_of, reading_of, EndsFrom}
 use Rattle.field_read.specs.declared.Field.{Field}
-use Rattle.field_read.specs.declared.Field.TheVariants.{Read, Unreadable}
-use Rattle.field_read.specs.declared.Part as code
+use Rattle.std.specs.Prelude.{Result, Ok, Err}
+use Rattle.refusal.specs.Number as refused
+use Rattle.refusal.specs.declared.Reason.{Reason}
 
 -- ---- what a field that reads is
 
@@ -133,28 +134,28 @@ module _ (bytes : List ℕ) (at : ℕ) where
   pub held_end : length bytes ≤ at → parts_held (drop at bytes) ≡ []
   held_end h = rw (drop_of_length-le bytes h) held_none
 
-  module _ {f : Field} (r : reading_of bytes f ≡ read_field (drop at bytes)) where
-    pub held_unreadable : f ≡ Unreadable → parts_held (drop at bytes) ≡ []
+  module _ {f : Result Field Reason} (r : reading_of bytes f ≡ read_field (drop at bytes)) where
+    pub held_unreadable : {reason : Reason} → f ≡ Err reason → parts_held (drop at bytes) ≡ []
     unfolding reading_of
-    held_unreadable e = held_stop (drop at bytes) 8 (sym r ∙ ap (reading_of bytes) e)
+    held_unreadable {reason} e = held_stop (drop at bytes) (refused.number_of reason) (sym r ∙ ap (reading_of bytes) e)
 
-    pub held_part : {part : code.Part} {next : ℕ} → f ≡ Read part next → parts_held (drop at bytes) ≡ part_of part ∷ parts_held (drop next bytes)
+    pub held_part : {field : Field} → f ≡ Ok field → parts_held (drop at bytes) ≡ part_of field.part ∷ parts_held (drop field.next bytes)
     unfolding reading_of
-    held_part {part} {next} e = held_read (drop at bytes) (drop next bytes) (part_of part) (sym r ∙ ap (reading_of bytes) e)
+    held_part {field} e = held_read (drop at bytes) (drop field.next bytes) (part_of field.part) (sym r ∙ ap (reading_of bytes) e)
 
     -- a field that is read begins in the bytes
-    pub part_inside : {part : code.Part} {next : ℕ} → f ≡ Read part next → at < length bytes
+    pub part_inside : {field : Field} → f ≡ Ok field → at < length bytes
     unfolding reading_of
-    part_inside {part} {next} e =
-        let s = read_size (drop at bytes) (drop next bytes) (part_of part) (sym r ∙ ap (reading_of bytes) e) in
+    part_inside {field} e =
+        let s = read_size (drop at bytes) (drop field.next bytes) (part_of field.part) (sym r ∙ ap (reading_of bytes) e) in
         let n = length-drop at bytes in
-        let z = size_pos (part_of part) in
+        let z = size_pos (part_of field.part) in
         omega arith
 
 -- the next offset is after the field
-pub next_part : (f : Field) (part : code.Part) (next at : ℕ) → f ≡ Read part next → EndsFrom at f → next ≡ at + size_of (part_of part)
+pub next_part : (f : Result Field Reason) (field : Field) (at : ℕ) → f ≡ Ok field → EndsFrom at f → field.next ≡ at + size_of (part_of field.part)
 unfolding EndsFrom
-next_part f part next at e h = rw e at h
+next_part f field at e h = rw e at h
 
 -- ---- the bytes of a certificate
 

@@ -2,8 +2,26 @@
 #![tactic(auto)]
 
 ghost use Rattle.std.specs.Prelude.{◌≡◌, ◌+◌, ◌≤◌, length, take, drop};
-ghost use Rattle.model.specs.Certificate.{number_of, read_body, read_field};
+ghost use Rattle.model.specs.Certificate.{number_of, read_field};
 ghost use Rattle.field_read.specs.Reading.{reading_of, EndsFrom};
+
+use refusal::Reason;
+
+// The tag of an answer and the length of its body, and those of a gap.
+const ANSWER_TAG: u8 = 1;
+
+const ANSWER_SIZE: u16 = 12;
+
+const GAP_TAG: u8 = 2;
+
+const GAP_SIZE: u16 = 16;
+
+// How many bytes a field's tag and length take, and the whole field of an answer and of a gap.
+const HEAD_BYTES: usize = 3;
+
+const ANSWER_BYTES: usize = 15;
+
+const GAP_BYTES: usize = 19;
 
 // One part of a certificate.
 #[derive(Clone, Copy)]
@@ -12,91 +30,69 @@ pub enum Part {
     Gap { first: u32, last: u32, mask: u64 },
 }
 
-// What stands at an offset: a part with the offset after its field, or no whole field of a known tag and its length.
-#[derive(Drop)]
-pub enum Field {
-    Read { part: Part, next: usize },
-    Unreadable,
+// A part, with the offset after its field.
+#[derive(Clone, Copy)]
+pub struct Field {
+    pub part: Part,
+    pub next: usize,
 }
 
 // Reads a number of two bytes, the lowest first; `read_u32` and `read_u64` read one of four and of eight.
-fn read_u16(certificate: &[u8], at: usize) -> u16
-    requires { at + 2 ≤ length certificate.now }
-    ensures { result ≡ number_of (take 2 (drop at certificate.now)) }
+fn read_u16(bytes: &[u8], at: usize) -> u16
+    requires { at + 2 ≤ length bytes.now }
+    ensures { result ≡ number_of (take 2 (drop at bytes.now)) }
 {
-    arith::u16_of_u8(certificate[at]) + 256 * arith::u16_of_u8(certificate[at + 1])
+    u16::from_le_bytes([bytes[at], bytes[at + 1]])
 }
 
-fn read_u32(certificate: &[u8], at: usize) -> u32
-    requires { at + 4 ≤ length certificate.now }
-    ensures { result ≡ number_of (take 4 (drop at certificate.now)) }
+fn read_u32(bytes: &[u8], at: usize) -> u32
+    requires { at + 4 ≤ length bytes.now }
+    ensures { result ≡ number_of (take 4 (drop at bytes.now)) }
 {
-    let low = read_u16(certificate, at) as u32;
-    let high = read_u16(certificate, at + 2) as u32;
-    low + 65536 * high
+    u32::from_le_bytes([bytes[at], bytes[at + 1], bytes[at + 2], bytes[at + 3]])
 }
 
-fn read_u64(certificate: &[u8], at: usize) -> u64
-    requires { at + 8 ≤ length certificate.now }
-    ensures { result ≡ number_of (take 8 (drop at certificate.now)) }
+fn read_u64(bytes: &[u8], at: usize) -> u64
+    requires { at + 8 ≤ length bytes.now }
+    ensures { result ≡ number_of (take 8 (drop at bytes.now)) }
 {
-    let low = read_u32(certificate, at) as u64;
-    let high = read_u32(certificate, at + 4) as u64;
-    low + 4294967296 * high
+    u64::from_le_bytes([
+        bytes[at],
+        bytes[at + 1],
+        bytes[at + 2],
+        bytes[at + 3],
+        bytes[at + 4],
+        bytes[at + 5],
+        bytes[at + 6],
+        bytes[at + 7],
+    ])
 }
 
-// Reads the answer whose field of length `size` starts at `at`.
-fn read_answer(certificate: &[u8], at: usize, size: u16) -> Field
-    requires { at + 3 ≤ length certificate.now }
-    ensures reading { reading_of certificate.now result ≡ read_body 1 size (drop (at + 3) certificate.now) }
-    ensures next { EndsFrom at result }
-{
-    if size == 12 {
-        if 15 <= arith::left(certificate.len(), at) {
-            let value = read_u32(certificate, at + 3);
-            let mask = read_u64(certificate, at + 7);
-            return Field::Read {
-                part: Part::Answer { value, mask },
-                next: at + 15,
-            };
-        }
-    }
-    Field::Unreadable
-}
-
-// Reads the gap whose field of length `size` starts at `at`.
-fn read_gap(certificate: &[u8], at: usize, size: u16) -> Field
-    requires { at + 3 ≤ length certificate.now }
-    ensures reading { reading_of certificate.now result ≡ read_body 2 size (drop (at + 3) certificate.now) }
-    ensures next { EndsFrom at result }
-{
-    if size == 16 {
-        if 19 <= arith::left(certificate.len(), at) {
-            let first = read_u32(certificate, at + 3);
-            let last = read_u32(certificate, at + 7);
-            let mask = read_u64(certificate, at + 11);
-            return Field::Read {
-                part: Part::Gap { first, last, mask },
-                next: at + 19,
-            };
-        }
-    }
-    Field::Unreadable
-}
-
-// Reads the field that starts at `at`, which may lie anywhere.
-pub fn read_field(certificate: &[u8], at: usize) -> Field
+// Reads the field that starts at `at`, which may lie anywhere; the refusal where no whole field of a known tag and its length stands there.
+pub fn read_field(certificate: &[u8], at: usize) -> Result<Field, Reason>
     ensures reading { reading_of certificate.now result ≡ read_field (drop at certificate.now) }
     ensures next { EndsFrom at result }
 {
-    if arith::left(certificate.len(), at) < 3 {
-        return Field::Unreadable;
+    let left = certificate.len().saturating_sub(at);
+    if left < HEAD_BYTES {
+        return Err(Reason::Field);
     }
-    let tag = certificate[at];
-    let size = read_u16(certificate, at + 1);
-    match tag {
-        1 => read_answer(certificate, at, size),
-        2 => read_gap(certificate, at, size),
-        _ => Field::Unreadable,
+    match (certificate[at], read_u16(certificate, at + 1)) {
+        (ANSWER_TAG, ANSWER_SIZE) if ANSWER_BYTES <= left => Ok(Field {
+            part: Part::Answer {
+                value: read_u32(certificate, at + 3),
+                mask: read_u64(certificate, at + 7),
+            },
+            next: at + ANSWER_BYTES,
+        }),
+        (GAP_TAG, GAP_SIZE) if GAP_BYTES <= left => Ok(Field {
+            part: Part::Gap {
+                first: read_u32(certificate, at + 3),
+                last: read_u32(certificate, at + 7),
+                mask: read_u64(certificate, at + 11),
+            },
+            next: at + GAP_BYTES,
+        }),
+        _ => Err(Reason::Field),
     }
 }

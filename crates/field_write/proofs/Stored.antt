@@ -11,7 +11,8 @@ use Rattle.model.proofs.Encoding.{part_size}
 use Rattle.model.proofs.Tests.{lt_or_le}
 use Rattle.model.specs.Certificate.{Part, answer, gap, bytes_of, field, encode_part, size_of}
 use Rattle.field_write.specs.Stored.{placed, stored, stored_result}
-use Rattle.field_write.specs.declared.Written.TheVariants.{Next, Full}
+use Rattle.std.specs.Prelude.{Ok, Err}
+use Rattle.refusal.specs.declared.Reason.TheVariants.{CertificateFull}
 use Rattle.field_write.proofs.Placed.{placed_length, placed_then}
 
 module _ (l : List ℕ) (at : ℕ) (p : Part) where
@@ -23,11 +24,11 @@ module _ (l : List ℕ) (at : ℕ) (p : Part) where
   unfolding stored
   stored_full h = rw (lt-leb (at + size_of p) (length l) h, stored)
 
-  pub result_fits : at + size_of p ≤ length l → stored_result l at p ≡ Next (at + size_of p)
+  pub result_fits : at + size_of p ≤ length l → stored_result l at p ≡ Ok (at + size_of p)
   unfolding stored_result
   result_fits h = rw (le-leb (at + size_of p) (length l) h, stored_result)
 
-  pub result_full : length l < at + size_of p → stored_result l at p ≡ Full
+  pub result_full : length l < at + size_of p → stored_result l at p ≡ Err CertificateFull
   unfolding stored_result
   result_full h = rw (lt-leb (at + size_of p) (length l) h, stored_result)
 

@@ -1,72 +1,61 @@
 // The fields of a certificate (docs/SPECIFICATION.md, 'The certificate'), written at an offset of lent bytes.
 #![tactic(auto)]
 
-ghost use Rattle.std.specs.Prelude.{◌≡◌, ◌∷◌, ◌+◌, ◌≤◌, length};
-ghost use Rattle.model.specs.Certificate.{bytes_of, answer, gap};
+ghost use Rattle.std.specs.Prelude.{◌≡◌, ◌+◌, ◌≤◌, length};
+ghost use Rattle.model.specs.Certificate.{answer, gap};
 ghost use Rattle.field_write.specs.Stored.{placed, stored, stored_result};
 
-// Whether a field was written: the offset after it, or that it does not fit whole.
-#[derive(Drop)]
-pub enum Written {
-    Next(usize),
-    Full,
-}
+use refusal::Reason;
 
-// Writes a field's tag and length.
-fn write_head(certificate: &mut [u8], at: usize, tag: u8, size: u16)
-    requires { at + 3 ≤ length certificate.old }
-    ensures { certificate.new ≡ placed certificate.old at (tag ∷ bytes_of 2 size) }
+// How many bytes the field of an answer takes, and that of a gap.
+const ANSWER_BYTES: usize = 15;
+
+const GAP_BYTES: usize = 19;
+
+// Writes bytes at an offset.
+fn write_bytes(certificate: &mut [u8], at: usize, bytes: &[u8])
+    requires { at + length bytes.now ≤ length certificate.old }
+    ensures { certificate.new ≡ placed certificate.old at bytes.now }
 {
-    certificate[at] = tag;
-    certificate[at + 1] = (size & 255) as u8;
-    certificate[at + 2] = ((size >> 8) & 255) as u8;
+    certificate[at..at + bytes.len()].copy_from_slice(bytes);
 }
 
-// Writes a number in four bytes, the lowest first.
-fn write_u32(certificate: &mut [u8], at: usize, x: u32)
-    requires { at + 4 ≤ length certificate.old }
-    ensures { certificate.new ≡ placed certificate.old at (bytes_of 4 x) }
-{
-    certificate[at] = (x & 255) as u8;
-    certificate[at + 1] = ((x >> 8) & 255) as u8;
-    certificate[at + 2] = ((x >> 16) & 255) as u8;
-    certificate[at + 3] = ((x >> 24) & 255) as u8;
-}
-
-// Writes a number in eight bytes, the lowest first.
-fn write_u64(certificate: &mut [u8], at: usize, x: u64)
-    requires { at + 8 ≤ length certificate.old }
-    ensures { certificate.new ≡ placed certificate.old at (bytes_of 8 x) }
-{
-    write_u32(certificate, at, (x & 0xffff_ffff) as u32);
-    write_u32(certificate, at + 4, (x >> 32) as u32);
-}
-
-// Writes an answer's field from `at` on where it fits whole; otherwise nothing is written.
-pub fn write_answer(certificate: &mut [u8], at: usize, value: u32, mask: u64) -> Written
+// Writes an answer's field from `at` on where it fits whole, and returns the offset after it; otherwise nothing is written.
+pub fn write_answer(
+    certificate: &mut [u8],
+    at: usize,
+    value: u32,
+    mask: u64,
+) -> Result<usize, Reason>
     ensures bytes { certificate.new ≡ stored certificate.old at (answer value mask) }
     ensures result { result ≡ stored_result certificate.old at (answer value mask) }
 {
-    if arith::left(certificate.len(), at) < 15 {
-        return Written::Full;
+    if certificate.len().saturating_sub(at) < ANSWER_BYTES {
+        return Err(Reason::CertificateFull);
     }
-    write_head(certificate, at, 1, 12);
-    write_u32(certificate, at + 3, value);
-    write_u64(certificate, at + 7, mask);
-    Written::Next(at + 15)
+    write_bytes(certificate, at, &[1, 12, 0]);
+    write_bytes(certificate, at + 3, &value.to_le_bytes());
+    write_bytes(certificate, at + 7, &mask.to_le_bytes());
+    Ok(at + ANSWER_BYTES)
 }
 
-// Writes a gap's field from `at` on where it fits whole; otherwise nothing is written.
-pub fn write_gap(certificate: &mut [u8], at: usize, first: u32, last: u32, mask: u64) -> Written
+// Writes a gap's field from `at` on where it fits whole, and returns the offset after it; otherwise nothing is written.
+pub fn write_gap(
+    certificate: &mut [u8],
+    at: usize,
+    first: u32,
+    last: u32,
+    mask: u64,
+) -> Result<usize, Reason>
     ensures bytes { certificate.new ≡ stored certificate.old at (gap first last mask) }
     ensures result { result ≡ stored_result certificate.old at (gap first last mask) }
 {
-    if arith::left(certificate.len(), at) < 19 {
-        return Written::Full;
+    if certificate.len().saturating_sub(at) < GAP_BYTES {
+        return Err(Reason::CertificateFull);
     }
-    write_head(certificate, at, 2, 16);
-    write_u32(certificate, at + 3, first);
-    write_u32(certificate, at + 7, last);
-    write_u64(certificate, at + 11, mask);
-    Written::Next(at + 19)
+    write_bytes(certificate, at, &[2, 16, 0]);
+    write_bytes(certificate, at + 3, &first.to_le_bytes());
+    write_bytes(certificate, at + 7, &last.to_le_bytes());
+    write_bytes(certificate, at + 11, &mask.to_le_bytes());
+    Ok(at + GAP_BYTES)
 }

@@ -1,16 +1,15 @@
 -- One turn of each loop, as a law about the definition that the loop computes. Assumes nothing.
 use Prim.Native.Nat.{ℕ, suc, ◌+◌, ◌-◌, ◌≤◌, ◌<◌}
-use borrow.Author.Tests.{lt-ltb, le-ltb, eq-eqb, ne_eqb}
+use borrow.Author.Tests.{lt-ltb, le-ltb}
 use lib.ListN.{length, get_or, take, drop, drop_of_length-le}
 use lib.Seq.{drop-cons}
 use mathlib.Core.List.{List}
-use mathlib.Core.Logic.{◌≢◌}
 use mathlib.Core.Option.{none, some}
 use mathlib.Core.Path.{◌≡◌, sym, ap, ◌∙◌}
 use native.Mathlib.Numerals.{add-one}
 use native.Mathlib.Omega.{arith}
-use Rattle.model.specs.Refusals.{falls_from, last_end, unrisen_in, misweighed}
-use Rattle.model.specs.Runs.{slice, unrisen_run, most_weight}
+use Rattle.model.specs.Refusals.{falls_from, last_end, unrisen_in}
+use Rattle.model.specs.Runs.{slice, unrisen_run}
 use Rattle.model.proofs.FirstChecks.{not_fallen, end_last, not_unrisen}
 
 -- ---- the ends
@@ -73,24 +72,3 @@ runs_on numbers ends a i l e = rw (drop-cons ends i 0 l, add-one i) (rw (e, unri
 pub runs_end : (numbers ends : List ℕ) (a i : ℕ) → length ends ≤ i → unrisen_in a numbers (drop i ends) ≡ none
 unfolding unrisen_in
 runs_end numbers ends a i h = rw (drop_of_length-le ends h)
-
--- ---- the weights
-
-module _ (weights : List ℕ) (i : ℕ) where
-  pub weighs_none : i < length weights → get_or weights i 0 ≡ 0 → misweighed i (drop i weights) ≡ some i
-  unfolding misweighed
-  weighs_none l h = rw (drop-cons weights i 0 l) (rw (eq-eqb (get_or weights i 0) 0 h, misweighed))
-
-  pub too_heavy : i < length weights → get_or weights i 0 ≢ 0 → most_weight < get_or weights i 0 → misweighed i (drop i weights) ≡ some i
-  unfolding misweighed
-  too_heavy l n h = rw (drop-cons weights i 0 l) (rw (ne_eqb (get_or weights i 0) 0 n, lt-ltb most_weight (get_or weights i 0) h, misweighed))
-
-  pub weighs_on : i < length weights → get_or weights i 0 ≢ 0 → get_or weights i 0 ≤ most_weight
-      → misweighed i (drop i weights) ≡ misweighed (i + 1) (drop (i + 1) weights)
-  unfolding misweighed
-  weighs_on l n h =
-      rw (drop-cons weights i 0 l, add-one i) (rw (ne_eqb (get_or weights i 0) 0 n, le-ltb most_weight (get_or weights i 0) h, misweighed))
-
-  pub weighs_end : length weights ≤ i → misweighed i (drop i weights) ≡ none
-  unfolding misweighed
-  weighs_end h = rw (drop_of_length-le weights h)

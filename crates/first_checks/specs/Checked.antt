@@ -1,8 +1,9 @@
 -- What the code's answer means: passed, or a number and a place of docs/SPECIFICATION.md, 'The refusals'. Definitions only.
-use Rattle.model.specs.Refusals.{Check, passed, refusal}
-use Rattle.first_checks.specs.declared.Checked.{Checked}
-use Rattle.first_checks.specs.declared.Checked.TheVariants.{Passed, Refused}
+use Rattle.std.specs.Prelude.{Result, Ok, Err}
+use Rattle.model.specs.Refusals.{Check, passed}
+use Rattle.refusal.specs.declared.Refusal.{Refusal}
+use Rattle.refusal.specs.Number.{refusal_of}
 
-abbrev pub check_of : Checked → Check
-check_of Passed = passed
-check_of (Refused n p) = refusal n p
+abbrev pub check_of : Result (Unit {0}) Refusal → Check
+check_of (Ok u) = passed
+check_of (Err r) = refusal_of r

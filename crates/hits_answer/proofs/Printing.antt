@@ -1,14 +1,13 @@
 -- What stands in the program's buffers before is of no account: only their lengths matter. Assumes nothing.
-use Prim.Native.Nat.{ℕ, ◌-◌, ◌≤◌}
+use Prim.Native.Nat.{ℕ, ◌≤◌}
 use lib.Dec.{ltb}
 use lib.ListN.{length, take, drop, replicate, length-replicate, length-append}
 use lib.Seq.{take-append_seam}
 use mathlib.Core.Bool.{Bool, ◌||◌}
 use mathlib.Core.List.{List, [], ◌∷◌, ◌++◌}
-use mathlib.Core.Path.{◌≡◌, refl, sym, ap, ap₂, ◌∙◌, subst}
+use mathlib.Core.Path.{◌≡◌, refl, sym, ap, ◌∙◌, subst}
 use native.Mathlib.Omega.{arith}
 use Rattle.model.specs.Refusals.{over}
-use Rattle.model.specs.Runs.{runs}
 use Rattle.hits_parse.specs.Parsed.{Returns}
 use Rattle.hits_parse.proofs.Parsing.{ends_length}
 use Rattle.hits_input.specs.Input as text
@@ -114,14 +113,12 @@ refusal_text failed input a b a' b' line e f r = sym (prints_refusal failed inpu
 
 pub question_text : (failed : Bool) (input a b a' b' : List ℕ) (t allowance n m : ℕ) → length a ≡ input_numbers → length b ≡ input_runs
     → Returns (text.parse failed input a b) (text.question t allowance n m) a' b'
-    → text_for (take (m - 0) (drop 0 a')) (take (n - 0) (drop 0 b')) t allowance ≡ hits failed input
+    → text_for (take m a') (take n b') t allowance ≡ hits failed input
 question_text failed input a b a' b' t allowance n m e f r =
     let s = parse_text failed input a b e f in
     let o : (text.parse failed input a b).outcome ≡ text.question t allowance n m = sym r.outcome_agrees in
-    let i : m - 0 ≡ m = omega arith in
-    let j : n - 0 ≡ n = omega arith in
-    let x : take (m - 0) a' ≡ take m (parsed failed input).numbers = ap₂ take i r.numbers_are ∙ s.numbers t allowance n m o in
-    let y : take (n - 0) b' ≡ take n (parsed failed input).ends = ap₂ take j r.ends_are ∙ s.ends t allowance n m o in
+    let x : take m a' ≡ take m (parsed failed input).numbers = ap (take m) r.numbers_are ∙ s.numbers t allowance n m o in
+    let y : take n b' ≡ take n (parsed failed input).ends = ap (take n) r.ends_are ∙ s.ends t allowance n m o in
     (λ d. text_for (x d) (y d) t allowance) ∙ sym (prints_question failed input t allowance n m (sym s.outcome ∙ o))
 
 pub question_fits : (failed : Bool) (input a b a' b' : List ℕ) (t allowance n m : ℕ) → Returns (text.parse failed input a b) (text.question t allowance n m) a' b'

@@ -5,35 +5,21 @@ ghost use Rattle.std.specs.Prelude.{◌≡◌};
 ghost use Rattle.hits_input.specs.Input.{heading_of};
 ghost use Rattle.hits_heading.specs.Heading.{heading_is};
 
-use text_read::Word;
-
-// The two numbers of line 1, or that it has not this form.
-#[derive(Drop)]
-pub enum First {
-    Pair { threshold: u32, allowance: u32 },
-    NoPair,
+// The two numbers of line 1.
+#[derive(Clone, Copy)]
+pub struct Heading {
+    pub threshold: u32,
+    pub allowance: u32,
 }
 
 // Line 1: two words, both numbers.
-pub fn read_first(line: &[u8]) -> First
+pub fn read_first(line: &[u8]) -> Option<Heading>
     ensures { heading_is result ≡ heading_of line.now }
 {
-    let end = text_read::first_of(line, 32);
-    if end == line.len() {
-        return First::NoPair;
-    }
-    let next = end + 1;
-    if next + text_read::first_of(&line[next..], 32) != line.len() {
-        return First::NoPair;
-    }
-    let Word::Number(threshold) = text_read::read_word(&line[0..end]) else {
-        return First::NoPair;
+    let mut words = line.split(|b| *b == b' ');
+    let heading = Heading {
+        threshold: text_read::read_word(words.next()?)?,
+        allowance: text_read::read_word(words.next()?)?,
     };
-    let Word::Number(allowance) = text_read::read_word(&line[next..]) else {
-        return First::NoPair;
-    };
-    First::Pair {
-        threshold: threshold,
-        allowance: allowance,
-    }
+    words.next().is_none().then_some(heading)
 }

@@ -15,7 +15,9 @@ use Rattle.text_read.specs.Pieces.{split, until, pieces}
 use Rattle.hits_input.specs.Input.{run_of, Lines, runs_are, fault_at, run_before, lines_from, row}
 use Rattle.hits_run.specs.Line.{count_of}
 use Rattle.hits_lines.specs.Lines.{scanned, lines_at}
-use Rattle.hits_lines.specs.declared.Scan.TheVariants.{Runs, Fault}
+use Rattle.hits_lines.specs.declared.Counts.{Counts}
+use Rattle.hits_lines.specs.declared.Faulty.{Faulty}
+use Rattle.std.specs.Prelude.{Result, Ok, Err}
 use Rattle.text_read.proofs.Pieces.{pieces_in, pieces_out, pieces_next}
 
 -- the lines from a place on, after i runs with n numbers
@@ -109,6 +111,13 @@ module _ (runs room i n : ℕ) (rest : List (List ℕ)) where
       ∙ (ap (λ x. scanned (i + 1) (n + length run) (lines_from (record { runs = runs; numbers = room }) x (n + length run) rest)) (sym (add-one i))
       ∙ ap (λ x. scanned (i + 1) (n + x) (lines_from (record { runs = runs; numbers = room }) (i + 1) (n + x) rest)) q))
 
+-- what a scan gives
+abbrev pub counted : ℕ → ℕ → Result Counts Faulty
+counted i n = Ok (record { runs = i; numbers = n })
+
+abbrev pub faulty : ℕ → Result Counts Faulty
+faulty line = Err (record { 0 = line })
+
 -- the scan so far
 pub record Scanning (bytes : List ℕ) (start runs room at i n : ℕ) : Type 0 where
   pub bound : at ≤ length bytes
@@ -122,32 +131,32 @@ scanning_start bytes start runs room h =
     record { bound = h; few = omega arith; fit_runs = omega arith; fit = omega arith; same = ap (scanned 0 0) (lines_start runs room bytes start h) }
 
 module _ (bytes : List ℕ) (start runs room at i n : ℕ) (s : Scanning bytes start runs room at i n) where
-  pub scanning_end : length bytes ≤ at → Runs i n ≡ scanned 0 0 (lines_at runs room bytes start)
+  pub scanning_end : length bytes ≤ at → counted i n ≡ scanned 0 0 (lines_at runs room bytes start)
   unfolding scanned row
   scanning_end h =
       let b = s.bound in
       let p : i ≡ i + 0 = omega arith in
       let q : n ≡ n + 0 = omega arith in
-      sym (s.same ∙ (ap (scanned i n) (lines_end runs room bytes at i n (omega arith)) ∙ (ap (λ x. Runs x (n + 0)) (sym p) ∙ ap (Runs i) (sym q))))
+      sym (s.same ∙ (ap (scanned i n) (lines_end runs room bytes at i n (omega arith)) ∙ (ap (λ x. counted x (n + 0)) (sym p) ∙ ap (counted i) (sym q))))
 
   module _ (end : ℕ) (h : at < length bytes) (e : end ≡ at + until 10 (drop at bytes)) where
     -- a fault in this line
-    found : lines_here runs room bytes at i n ≡ fault_at (i + 2) → Fault (i + 2) ≡ scanned 0 0 (lines_at runs room bytes start)
+    found : lines_here runs room bytes at i n ≡ fault_at (i + 2) → faulty (i + 2) ≡ scanned 0 0 (lines_at runs room bytes start)
     unfolding scanned
     found q = sym (s.same ∙ ap (scanned i n) q)
 
-    pub found_unended : end ≡ length bytes → Fault (i + 2) ≡ scanned 0 0 (lines_at runs room bytes start)
+    pub found_unended : end ≡ length bytes → faulty (i + 2) ≡ scanned 0 0 (lines_at runs room bytes start)
     found_unended q = found (line_unended runs room bytes at end i n h e q)
 
     module _ (q : end ≢ length bytes) where
-      pub found_form : count_of (run_of (take (end - at) (drop at bytes))) ≡ none → Fault (i + 2) ≡ scanned 0 0 (lines_at runs room bytes start)
+      pub found_form : count_of (run_of (take (end - at) (drop at bytes))) ≡ none → faulty (i + 2) ≡ scanned 0 0 (lines_at runs room bytes start)
       found_form g = found (line_ended runs room bytes at end i n h e q ∙ stop_form runs room i n _ _ g)
 
       module _ (m : ℕ) (g : count_of (run_of (take (end - at) (drop at bytes))) ≡ some m) where
-        pub found_runs : runs ≤ i → Fault (i + 2) ≡ scanned 0 0 (lines_at runs room bytes start)
+        pub found_runs : runs ≤ i → faulty (i + 2) ≡ scanned 0 0 (lines_at runs room bytes start)
         found_runs k = found (line_ended runs room bytes at end i n h e q ∙ stop_runs runs room i n _ _ g k)
 
-        pub found_room : i < runs → room < n + m → Fault (i + 2) ≡ scanned 0 0 (lines_at runs room bytes start)
+        pub found_room : i < runs → room < n + m → faulty (i + 2) ≡ scanned 0 0 (lines_at runs room bytes start)
         found_room k l = found (line_ended runs room bytes at end i n h e q ∙ stop_room runs room i n _ _ g k l)
 
         pub scanning_on : i < runs → n + m ≤ room → Scanning bytes start runs room (end + 1) (i + 1) (n + m)

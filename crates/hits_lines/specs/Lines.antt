@@ -1,21 +1,21 @@
 -- What the two passes over the lines compute. Definitions only.
-use Rattle.std.specs.Prelude.{ℕ, ◌+◌, ◌≤◌, List, [], ◌≡◌, length, drop}
+use Rattle.std.specs.Prelude.{ℕ, ◌+◌, ◌≤◌, Result, Ok, Err, List, [], ◌≡◌, length, drop}
 use Rattle.std.proofs.lemmas.List.Edits.{sets}
 use Rattle.hits_input.specs.Input.{Lines, runs_are, fault_at, lines_from, row, ends_from}
 use Rattle.hits_limits.specs.Limits.{most_bytes}
 use Rattle.text_read.specs.Pieces.{split}
-use Rattle.hits_lines.specs.declared.Scan.{Scan}
-use Rattle.hits_lines.specs.declared.Scan.TheVariants.{Runs, Fault}
+use Rattle.hits_lines.specs.declared.Counts.{Counts}
+use Rattle.hits_lines.specs.declared.Faulty.{Faulty}
 
 -- how many runs and numbers there are with those of the lines, or the line at fault
-unfoldable pub scanned : ℕ → ℕ → Lines → Scan
-scanned i n (runs_are runs) = Runs (i + length runs) (n + length (row runs))
-scanned i n (fault_at line) = Fault line
+unfoldable pub scanned : ℕ → ℕ → Lines → Result Counts Faulty
+scanned i n (runs_are runs) = Ok (record { runs = i + length runs; numbers = n + length (row runs) })
+scanned i n (fault_at line) = Err (record { 0 = line })
 
 -- there is room for the runs and numbers counted
-pub data Within (runs room : ℕ) : Scan → Type 0 where
-  within : {i n : ℕ} → i ≤ runs → n ≤ room → Within runs room (Runs i n)
-  faulted : {line : ℕ} → Within runs room (Fault line)
+abbrev pub Within : ℕ → ℕ → Result Counts Faulty → Type 0
+Within runs room (Ok counts) = (counts.runs ≤ runs) × (counts.numbers ≤ room)
+Within runs room (Err fault) = Unit {0}
 
 unfoldable pub runs_in : Lines → List (List ℕ)
 runs_in (runs_are runs) = runs

@@ -5,42 +5,42 @@ ghost use Rattle.std.specs.Prelude.{◌≡◌, ◌≤◌, length};
 ghost use Rattle.hits_limits.specs.Limits.{most_bytes};
 ghost use Rattle.hits_lines.specs.Lines.{scanned, Within, lines_at, Readable, Stored};
 
-use hits_run::Run;
-
-// The further lines: how many runs and numbers they have, or the first at fault.
-#[derive(Drop)]
-pub enum Scan {
-    Runs { runs: usize, count: usize },
-    Fault(usize),
+// How many runs and numbers the further lines have.
+#[derive(Clone, Copy)]
+pub struct Counts {
+    pub runs: usize,
+    pub numbers: usize,
 }
 
+// The number of the first line at fault.
+#[derive(Clone, Copy)]
+pub struct Faulty(pub usize);
+
 // The first line at fault among those from a place on, with room for so many runs and numbers.
-pub fn scan_lines(bytes: &[u8], start: usize, runs: usize, room: usize) -> Scan
+pub fn scan_lines(bytes: &[u8], start: usize, runs: usize, room: usize) -> Result<Counts, Faulty>
     requires { (start ≤ length bytes.now) × (length bytes.now ≤ most_bytes) }
     ensures { (result ≡ scanned 0 0 (lines_at runs room bytes.now start)) × Within runs room result }
 {
     let mut at = start;
-    let mut i: usize = 0;
-    let mut n: usize = 0;
+    let mut counts = Counts {
+        runs: 0,
+        numbers: 0,
+    };
     while at < bytes.len() {
-        let end = at + text_read::first_of(&bytes[at..], 10);
+        let fault = Faulty(counts.runs + 2);
+        let end = at + text_read::first_of(&bytes[at..], b'\n');
         if end == bytes.len() {
-            return Scan::Fault(i + 2);
+            return Err(fault);
         }
-        let Run::Numbers(more) = hits_run::count_run(&bytes[at..end]) else {
-            return Scan::Fault(i + 2);
-        };
-        if runs <= i {
-            return Scan::Fault(i + 2);
+        let more = hits_run::count_run(&bytes[at..end]).ok_or(fault)?;
+        if runs <= counts.runs || room - counts.numbers < more {
+            return Err(fault);
         }
-        if room - n < more {
-            return Scan::Fault(i + 2);
-        }
-        i += 1;
-        n += more;
+        counts.runs += 1;
+        counts.numbers += more;
         at = end + 1;
     }
-    Scan::Runs { runs: i, count: n }
+    Ok(counts)
 }
 
 // Stores the runs of the lines from a place on.
@@ -49,10 +49,10 @@ pub fn write_lines(bytes: &[u8], start: usize, numbers: &mut [u32], ends: &mut [
     ensures { Stored bytes.now start numbers.old ends.old numbers.new ends.new }
 {
     let mut at = start;
-    let mut i: usize = 0;
-    let mut n: usize = 0;
+    let mut i = 0;
+    let mut n = 0;
     while at < bytes.len() {
-        let end = at + text_read::first_of(&bytes[at..], 10);
+        let end = at + text_read::first_of(&bytes[at..], b'\n');
         n = hits_run::write_run(&bytes[at..end], numbers, n);
         ends[i] = n as u32;
         i += 1;

@@ -1,3 +1,2 @@
-pub mod Parted
 pub mod Parts
 pub mod Room

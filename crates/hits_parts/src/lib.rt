@@ -7,31 +7,24 @@ ghost use Rattle.field_read.specs.Reading.{part_of};
 ghost use Rattle.text_write.specs.Laying.{Lays};
 ghost use Rattle.hits_parts.specs.Parts.{part_line, part_lines};
 
-use field_read::{Field, Part};
+use field_read::Part;
 
 // Lays the line of a part.
+#[tactic(auto, unfolding(crate::specs::Parts::part_line, field_read::specs::Reading::part_of))]
 fn put_part(text: &mut [u8], at: usize, part: Part) -> usize
     requires { at ≤ length text.old + 1 }
     ensures { Lays (part_line (part_of part)) text.old at text.new result }
 {
     match part {
-        Part::Answer { value, mask } => text_lines::put_two(
+        Part::Answer { value, mask } => {
+            text_lines::put_line(text, at, b"hit", &[u64::from(value), mask])
+        }
+        Part::Gap { first, last, mask } => text_lines::put_line(
             text,
             at,
-            b"hit",
-            arith::u64_of_u32(value),
-            mask,
+            b"gap",
+            &[u64::from(first), u64::from(last), mask],
         ),
-        Part::Gap { first, last, mask } => {
-            text_lines::put_three(
-                text,
-                at,
-                b"gap",
-                arith::u64_of_u32(first),
-                arith::u64_of_u32(last),
-                mask,
-            )
-        }
     }
 }
 
@@ -39,14 +32,11 @@ fn put_part(text: &mut [u8], at: usize, part: Part) -> usize
 pub fn put_parts(text: &mut [u8], certificate: &[u8]) -> usize
     ensures { Lays (part_lines (parts_held certificate.now)) text.old 0 text.new result }
 {
-    let mut place: usize = 0;
-    let mut at: usize = 0;
-    while at < certificate.len() {
-        let Field::Read { part, next } = field_read::read_field(certificate, at) else {
-            return place;
-        };
-        place = put_part(text, place, part);
-        at = next;
+    let mut place = 0;
+    let mut at = 0;
+    while let Ok(field) = field_read::read_field(certificate, at) {
+        place = put_part(text, place, field.part);
+        at = field.next;
     }
     place
 }

@@ -13,7 +13,7 @@ use mathlib.Core.Path.{◌≡◌, refl, sym, ap, ◌∙◌, subst}
 use native.Mathlib.Omega.{arith}
 use Rattle.model.specs.Certificate.{Part, answer, gap}
 use Rattle.model.specs.Demands.{Fits}
-use Rattle.model.specs.Refusals.{◌then◌, Check, passed, refusal, refuse_if, refuse_at, falls_from, last_end, count_check, threshold_check, list_checks, first_checks, Outcome, accepted, refused, answered_by, checked_first, query}
+use Rattle.model.specs.Refusals.{Check, passed, refusal, refuse_if, refuse_at, falls_from, last_end, count_check, threshold_check, list_checks, first_checks, Outcome, accepted, refused, answered_by, checked_first, query}
 use Rattle.model.specs.Runs.{last_bin, past_bin, most_numbers, runs}
 use Rattle.model.proofs.Enough.{Door, door_passed, door_then, door_if, door_at, room_enough}
 use Rattle.model.proofs.Tests.{lt_or_le, or_false}

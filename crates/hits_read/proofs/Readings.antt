@@ -1,82 +1,74 @@
--- What a read comes to, by the tests of the code on its answer and on errno, and how reading goes on. The machine holds a signed number as bits, and what it reads
--- back from them is the number, since it fits. Assumes nothing.
-use Prim.Native.Nat.{ℕ, zero, suc, ◌+◌, ◌-◌, ◌≤◌, ◌<◌}
-use borrow.Author.Tests.{ne_eqb, ltb-false}
-use lib.Dec.{T, eqb}
-use lib.IntN.{ℤ, pos, negsuc, nat_abs}
-use lib.Signed.{lt_z, non_neg}
-use mathlib.Core.Bool.{Bool, true, false}
-use mathlib.Core.Logic.{◌≢◌}
-use mathlib.Core.Path.{◌≡◌, refl, sym, ap, ◌∙◌, subst}
-use native.Mathlib.Omega.{arith}
-use mir.Facts.{Fits-nat_abs, to_z-of_z}
-use mir.Syntax.{w64}
-use mir.Val.{SFits, Fits, to_z, of_z}
-use Rattle.hits_read.specs.Reading.{interrupts, reading_of, step_after, Within}
-use Rattle.hits_read.specs.declared.Reading.{Reading}
-use Rattle.hits_read.specs.declared.Reading.TheVariants.{Bytes, End, Interrupted, Failed}
-use Rattle.hits_read.specs.declared.Step.TheVariants.{On, Over}
+-- What a read comes to, by the tests of the code on its answer, and how reading goes on. Assumes nothing.
+use Rattle.std.proofs.Common.{◌≡◌, ◌≢◌, ℕ, zero, suc, ◌+◌, ◌-◌, ◌<◌, ◌≤◌, true, false, List, length, Result, Ok, Err, Continue, Break, refl, sym, ap, ◌∙◌, arith}
+use Rattle.std.specs.Io.{ReadsAtMost}
+use Rattle.std.specs.IoError.{error_kind}
+use Rattle.std.specs.declared.io.Error.{Error}
+use Rattle.std.specs.declared.io.ErrorKind.{ErrorKind}
+use Rattle.std.specs.declared.io.ErrorKind.TheVariants.{Interrupted}
+use Rattle.hits_read.specs.Reading.{Reading, bytes, ended, interrupted, failed, error_reading, reading_of, step_after, Within}
+use Rattle.hits_read.specs.declared.Received.{Received}
 
--- a positive answer is no less than 0, and its bits are its value
-pub positive_fits : (got : ℤ) → SFits w64 got → lt_z (pos 0) got ≡ true → T (non_neg got) × Fits w64 (nat_abs got)
-positive_fits (pos n) f e = (tt, Fits-nat_abs {w = w64} {w' = w64} {z = pos n} tt f)
-positive_fits (negsuc n) f e = absurd (let z : ◌≡◌ {A = ℕ} 0 1 = cc in omega arith)
+-- an error
+error_fails : (k : ErrorKind) → k ≢ Interrupted → error_reading k ≡ failed
+unfolding error_reading
+error_fails Interrupted n = absurd (n refl)
+error_fails _ n = refl
 
-pub positive : (got errno : ℤ) → lt_z (pos 0) got ≡ true → Bytes (nat_abs got) ≡ reading_of got errno
+module _ {got : Result ℕ Error} {error : Error} (e : got ≡ Err error) where
+  interruption : error_kind error ≡ Interrupted → reading_of got ≡ interrupted
+  unfolding error_reading reading_of
+  interruption k = ap reading_of e ∙ ap error_reading k
+
+  failure : error_kind error ≢ Interrupted → reading_of got ≡ failed
+  unfolding reading_of
+  failure n = ap reading_of e ∙ error_fails (error_kind error) n
+
+-- ---- how reading goes on, by what a read answered
+
+module _ (size tries : ℕ) (got : Result ℕ Error) where
+  pub at_end : (n : ℕ) → got ≡ Ok n → n ≡ 0 → Break (record { size = size; failed = false }) ≡ step_after size tries (reading_of got)
+  unfolding reading_of step_after
+  at_end n e z = rw (e, z)
+
+  pub more_bytes : (n : ℕ) → got ≡ Ok n → n ≢ 0 → Continue (size + n, tries) ≡ step_after size tries (reading_of got)
+  unfolding reading_of step_after
+  more_bytes zero e z = absurd (z refl)
+  more_bytes (suc n) e z = rw e
+
+  pub bytes_fit : (room n : ℕ) → got ≡ Ok n → n ≢ 0 → Within room (reading_of got) → n ≤ room
+  unfolding reading_of
+  bytes_fit room zero e z w = absurd (z refl)
+  bytes_fit room (suc n) e z w = (rw e at w).1
+
+  module _ {error : Error} (e : got ≡ Err error) where
+    pub tried_again : error_kind error ≡ Interrupted → 0 < tries → Continue (size, tries - 1) ≡ step_after size tries (reading_of got)
+    unfolding step_after
+    tried_again k h = by tries h ∙ ap (step_after size tries) (sym (interruption e k))
+      where
+        by : (tries : ℕ) → 0 < tries → Continue (size, tries - 1) ≡ step_after size tries interrupted
+        by zero h = absurd (omega arith)
+        by (suc tries) h = let q : suc tries - 1 ≡ tries = omega arith in ap (λ n. Continue (size, n)) q
+
+    pub no_tries : error_kind error ≡ Interrupted → tries ≡ 0 → Break (record { size = size; failed = true }) ≡ step_after size tries (reading_of got)
+    unfolding step_after
+    no_tries k z = ap (λ n. step_after size n interrupted) (sym z) ∙ ap (step_after size tries) (sym (interruption e k))
+
+    pub read_failed : error_kind error ≢ Interrupted → Break (record { size = size; failed = true }) ≡ step_after size tries (reading_of got)
+    unfolding step_after
+    read_failed n = ap (step_after size tries) (sym (failure e n))
+
+-- ---- what a read may answer fits the buffer: as many bytes as were read, or an error
+
+error_within : (room : ℕ) (k : ErrorKind) → Within room (error_reading k)
+unfolding error_reading
+error_within room Interrupted = tt
+error_within room _ = tt
+
+pub read_within : (room : ℕ) (got : Result ℕ Error) (buf : List ℕ) → length buf ≤ room → ReadsAtMost got buf → Within room (reading_of got)
 unfolding reading_of
-positive (pos zero) errno e = absurd (let z : ◌≡◌ {A = ℕ} 0 1 = cc in omega arith)
-positive (pos (suc n)) errno e = refl
-positive (negsuc n) errno e = absurd (let z : ◌≡◌ {A = ℕ} 0 1 = cc in omega arith)
-
-pub ended : (got errno : ℤ) → got ≡ pos 0 → End ≡ reading_of got errno
-unfolding reading_of
-ended got errno e = rw (e, reading_of)
-
-negative : (got errno : ℤ) (r : Reading) → lt_z (pos 0) got ≡ false → got ≢ pos 0 → (reading_of (negsuc 0) errno ≡ r) → r ≡ reading_of got errno
-unfolding reading_of
-negative (pos zero) errno r e n h = absurd (n refl)
-negative (pos (suc n)) errno r e k h = let l = ltb-false 0 (suc n) e in absurd (omega arith)
-negative (negsuc n) errno r e k h = sym h
-
-pub interrupted : (got errno : ℤ) → lt_z (pos 0) got ≡ false → got ≢ pos 0 → errno ≡ pos 4 → Interrupted ≡ reading_of got errno
-unfolding reading_of interrupts
-interrupted got errno e n h = negative got errno Interrupted e n (rw (h, reading_of))
-
-pub other_failure : (got errno : ℤ) → lt_z (pos 0) got ≡ false → got ≢ pos 0 → errno ≢ pos 4 → Failed ≡ reading_of got errno
-unfolding reading_of interrupts
-other_failure got (pos k) e n h = negative got (pos k) Failed e n (rw (ne_eqb k 4 (λ i. h (ap pos i)), reading_of))
-other_failure got (negsuc k) e n h = negative got (negsuc k) Failed e n refl
-
--- what a call may answer fits the buffer: as many bytes as were read, or a failure
-pub bytes_within : (room n : ℕ) (errno : ℤ) → n ≤ room → Within room (reading_of (pos n) errno)
-unfolding reading_of
-bytes_within room zero errno m = tt
-bytes_within room (suc n) errno m = (omega arith, m)
-
-pub failure_within : (room : ℕ) (errno : ℤ) → Within room (reading_of (negsuc 0) errno)
-unfolding reading_of
-failure_within room errno = failed (interrupts errno)
-  where
-    failed : (b : Bool) → Within room (elim b [ true ↦ Interrupted | false ↦ Failed ])
-    failed true = tt
-    failed false = tt
-
--- what fits a buffer fits a larger one
-pub within_more : {room more : ℕ} (r : Reading) → room ≤ more → Within room r → Within more r
-within_more (Bytes n) h w = let l : n ≤ _ = w.1 in (w.0, omega arith)
-within_more End h w = tt
-within_more Interrupted h w = tt
-within_more Failed h w = tt
-
--- an interruption, with no try left and with some
-pub no_tries : (size tries : ℕ) → tries ≡ 0 → Over size true ≡ step_after size tries Interrupted
-unfolding step_after
-no_tries size tries e = rw (e, step_after)
-
-pub tried_again : (size tries : ℕ) → tries ≢ 0 → On size (tries - 1) ≡ step_after size tries Interrupted
-unfolding step_after
-tried_again size zero n = absurd (n refl)
-tried_again size (suc tries) n = let e : suc tries - 1 ≡ tries = omega arith in ap (On size) e
+read_within room (Ok zero) buf h w = tt
+read_within room (Ok (suc n)) buf h w = (omega arith, omega (arith, h, w.0))
+read_within room (Err error) buf h w = error_within room (error_kind error)
 
 -- Where reading goes on, the bytes have become more or the tries fewer, and what was read fits.
 pub record Goes (room size tries next left : ℕ) : Type 0 where
@@ -84,27 +76,29 @@ pub record Goes (room size tries next left : ℕ) : Type 0 where
   pub further : size ≤ next
   pub falls : size + left < next + tries
 
-pub goes_on : (room size tries next left : ℕ) (r : Reading) → Within room r → On next left ≡ step_after size tries r → Goes room size tries next left
+pub goes_on : (room size tries next left : ℕ) (r : Reading) → Within room r → Continue (next, left) ≡ step_after size tries r → Goes room size tries next left
 unfolding step_after
-goes_on room size tries next left (Bytes n) w e =
-    let i : next ≡ size + n = cc in
-    let j : left ≡ tries = cc in
+goes_on room size tries next left (bytes n) w e =
+    let p : ◌≡◌ {A = ℕ × ℕ} (next, left) (size + n, tries) = cc in
+    let i = ap (λ q. q.0) p in
+    let j = ap (λ q. q.1) p in
     let k : 0 < n = w.0 in
     let l : n ≤ room = w.1 in
     record { inside = omega arith; further = omega arith; falls = omega arith }
-goes_on room size tries next left End w e = absurd (let z : ◌≡◌ {A = ℕ} 0 1 = cc in omega arith)
-goes_on room size zero next left Interrupted w e = absurd (let z : ◌≡◌ {A = ℕ} 0 1 = cc in omega arith)
-goes_on room size (suc tries) next left Interrupted w e =
-    let i : next ≡ size = cc in
-    let j : left ≡ tries = cc in
+goes_on room size tries next left ended w e = cc
+goes_on room size zero next left interrupted w e = cc
+goes_on room size (suc tries) next left interrupted w e =
+    let p : ◌≡◌ {A = ℕ × ℕ} (next, left) (size, tries) = cc in
+    let i = ap (λ q. q.0) p in
+    let j = ap (λ q. q.1) p in
     record { inside = omega arith; further = omega arith; falls = omega arith }
-goes_on room size tries next left Failed w e = absurd (let z : ◌≡◌ {A = ℕ} 0 1 = cc in omega arith)
+goes_on room size tries next left failed w e = cc
 
 -- where it is over, the bytes are those that were read before
-pub over_size : (size tries count : ℕ) (failed : Bool) (r : Reading) → Over count failed ≡ step_after size tries r → count ≡ size
+pub over_size : (size tries : ℕ) (received : Received) (r : Reading) → Break received ≡ step_after size tries r → received.size ≡ size
 unfolding step_after
-over_size size tries count failed (Bytes n) e = absurd (let z : ◌≡◌ {A = ℕ} 0 1 = cc in omega arith)
-over_size size tries count failed End e = cc
-over_size size zero count failed Interrupted e = cc
-over_size size (suc tries) count failed Interrupted e = absurd (let z : ◌≡◌ {A = ℕ} 0 1 = cc in omega arith)
-over_size size tries count failed Failed e = cc
+over_size size tries received (bytes n) e = cc
+over_size size tries received ended e = let p : received ≡ record { size = size; failed = false } = cc in ap (λ x. x.size) p
+over_size size zero received interrupted e = let p : received ≡ record { size = size; failed = true } = cc in ap (λ x. x.size) p
+over_size size (suc tries) received interrupted e = cc
+over_size size tries received failed e = let p : received ≡ record { size = size; failed = true } = cc in ap (λ x. x.size) p

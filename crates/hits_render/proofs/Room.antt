@@ -1,5 +1,5 @@
 -- How much room is enough. The lines of the parts have at most 4 bytes for each byte of the certificate, the line `done` at most 69 and the line `refuse`
--- at most 32. So a text has at most 4 bytes for each byte of the certificate, and one line. Assumes nothing.
+-- at most 49. So a text has at most 4 bytes for each byte of the certificate, and one line. Assumes nothing.
 use Prim.Native.Nat.{ℕ, zero, suc, ◌+◌, ◌*◌, ◌^◌, ◌≤◌, ◌<◌, min}
 use lib.ListN.{length, take, length-append, length-take}
 use mathlib.Core.List.Memᴰ
@@ -17,9 +17,9 @@ use Rattle.hits_parts.specs.Parts.{part_lines}
 use Rattle.hits_parts.proofs.Room.{parts_room}
 use Rattle.hits_render.specs.Text.{done_line, refuse_line, rendered}
 
-done_room : (answers parts doublings halvings : ℕ) → answers < 2 ^ 64 → parts < 2 ^ 64 → doublings < 2 ^ 32 → halvings < 2 ^ 32
-    → length (done_line answers parts doublings halvings) ≤ 69
-unfolding done_line
+pub done_room : (answers parts doublings halvings : ℕ) → answers < 2 ^ 64 → parts < 2 ^ 64 → doublings < 2 ^ 32 → halvings < 2 ^ 32
+    → length (done_line answers parts doublings halvings) ≤ line_room
+unfolding done_line line_room
 done_room answers parts doublings halvings h i j k =
     let e = line_length (100 ∷ 111 ∷ 110 ∷ 101 ∷ []) (answers ∷ parts ∷ doublings ∷ halvings ∷ []) in
     let a = decimal_few 19 answers (omega arith) in
@@ -28,11 +28,11 @@ done_room answers parts doublings halvings h i j k =
     let d = decimal_few 9 halvings (omega arith) in
     omega arith
 
-pub refuse_room : (number place : ℕ) → number < 2 ^ 8 → place < 2 ^ 64 → length (refuse_line number place) ≤ line_room
+pub refuse_room : (number place : ℕ) → number < 2 ^ 64 → place < 2 ^ 64 → length (refuse_line number place) ≤ line_room
 unfolding refuse_line line_room
 refuse_room number place h k =
     let e = line_length (114 ∷ 101 ∷ 102 ∷ 117 ∷ 115 ∷ 101 ∷ []) (number ∷ place ∷ []) in
-    let a = decimal_few 2 number (omega arith) in
+    let a = decimal_few 19 number (omega arith) in
     let b = decimal_few 19 place (omega arith) in
     omega arith
 
@@ -48,12 +48,11 @@ take_fits (suc n) (y ∷ s) h =
           (Memᴰ.cases_cons m);
     }
 
-pub text_room : (answers parts bytes doublings halvings : ℕ) (certificate : List ℕ) → Fits 256 certificate → answers < 2 ^ 64 → parts < 2 ^ 64
-    → doublings < 2 ^ 32 → halvings < 2 ^ 32
+pub text_room : (answers parts bytes doublings halvings : ℕ) (certificate : List ℕ) → Fits 256 certificate
+    → length (done_line answers parts doublings halvings) ≤ line_room
     → length (rendered (accepted answers parts bytes doublings halvings) certificate) ≤ 4 * min bytes (length certificate) + line_room
-unfolding rendered line_room
-text_room answers parts bytes doublings halvings certificate f h i j k =
+unfolding rendered
+text_room answers parts bytes doublings halvings certificate f d =
     let a = length-append (part_lines (parts_held (take bytes certificate))) (done_line answers parts doublings halvings) in
-    let d = done_room answers parts doublings halvings h i j k in
     let p = parts_room (length (take bytes certificate)) (take bytes certificate) (omega arith) (take_fits bytes certificate f) in
     omega (arith, length-take bytes certificate)

@@ -1,8 +1,6 @@
 -- docs/SPECIFICATION.md, 'The program hits': the text that it prints for the outcome of a question and its certificate. Definitions only.
-use Rattle.std.specs.Prelude.{ℕ, true, false, List, [], ◌∷◌, ◌++◌, ◌≡◌, leb, length, take}
+use Rattle.std.specs.Prelude.{ℕ, true, false, List, [], ◌∷◌, ◌++◌, ◌≡◌, leb, length, take, Option, Some, None}
 use Rattle.model.specs.Refusals.{Outcome, accepted, refused, over}
-use Rattle.hits_render.specs.declared.Rendered.{Rendered}
-use Rattle.hits_render.specs.declared.Rendered.TheVariants.{Text, Full}
 use Rattle.text_lines.specs.Lines.{line}
 use Rattle.field_read.specs.Held.{parts_held}
 use Rattle.hits_parts.specs.Parts.{part_lines}
@@ -22,11 +20,10 @@ rendered (accepted answers parts bytes doublings halvings) certificate =
     part_lines (parts_held (take bytes certificate)) ++ done_line answers parts doublings halvings
 rendered (refused number place answers bytes doublings halvings) certificate = refuse_line number place
 
--- A text in a buffer: what fits is written from the front, and the rest of the buffer is unchanged. The result is the text's length, or that it does
--- not fit.
-unfoldable pub fitting : ℕ → ℕ → Rendered
-fitting size room = elim (leb size room) [ true ↦ Text size | false ↦ Full ]
+-- A text in a buffer: what fits is written from the front, and the rest of the buffer is unchanged. The result is the text's length, if it fits.
+unfoldable pub fitting : ℕ → ℕ → Option ℕ
+fitting size room = elim (leb size room) [ true ↦ Some size | false ↦ None ]
 
-pub record Shows (text before after : List ℕ) (r : Rendered) : Type 0 where
+pub record Shows (text before after : List ℕ) (r : Option ℕ) : Type 0 where
   pub written : after ≡ over (take (length before) text) before
   pub result : r ≡ fitting (length text) (length before)

@@ -1,14 +1,13 @@
--- What the functions on a run's line compute, and what the code's enum means. Definitions only.
+-- What the functions on a run's line compute, and what the code's `Option` means. Definitions only.
 use Rattle.std.specs.Prelude.{ℕ, List, [], ◌∷◌, length}
+use Rattle.std.specs.Prelude.{Option as Found, Some, None}
 use Rattle.std.proofs.Math.Option.{Option, none, some}
 use Rattle.text_read.specs.Numbers.{number}
-use Rattle.hits_run.specs.declared.Run.{Run}
-use Rattle.hits_run.specs.declared.Run.TheVariants.{Numbers, NoRun}
 
 -- how many numbers a run has
-abbrev pub count_is : Run → Option ℕ
-count_is (Numbers n) = some n
-count_is NoRun = none
+abbrev pub count_is : Found ℕ → Option ℕ
+count_is (Some n) = some n
+count_is None = none
 
 unfoldable pub count_of : Option (List ℕ) → Option ℕ
 count_of none = none

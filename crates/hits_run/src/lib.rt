@@ -7,33 +7,19 @@ ghost use Rattle.hits_input.specs.Input.{run_of};
 ghost use Rattle.text_read.specs.Pieces.{split};
 ghost use Rattle.hits_run.specs.Line.{count_is, count_of, leading};
 
-use text_read::Word;
-
-// A further line: how many numbers its run has.
-#[derive(Drop)]
-pub enum Run {
-    Numbers(usize),
-    NoRun,
-}
-
-// How many numbers a run's line has.
-pub fn count_run(line: &[u8]) -> Run
+// How many numbers a run's line has, or nothing if one of its words is none.
+pub fn count_run(line: &[u8]) -> Option<usize>
     ensures { count_is result ≡ count_of (run_of line.now) }
 {
-    if line.len() == 0 {
-        return Run::Numbers(0);
+    if line.is_empty() {
+        return Some(0);
     }
-    let mut at: usize = 0;
-    let mut n: usize = 0;
-    while at <= line.len() {
-        let end = at + text_read::first_of(&line[at..], 32);
-        let Word::Number(x) = text_read::read_word(&line[at..end]) else {
-            return Run::NoRun;
-        };
+    let mut n = 0;
+    for word in line.split(|b| *b == b' ') {
+        text_read::read_word(word)?;
         n += 1;
-        at = end + 1;
     }
-    Run::Numbers(n)
+    Some(n)
 }
 
 // Stores the numbers of a run's line from a place on, and returns the place after them.
@@ -41,16 +27,13 @@ pub fn write_run(line: &[u8], numbers: &mut [u32], from: usize) -> usize
     requires { from + length (leading (split 32 line.now)) ≤ length numbers.old }
     ensures { (result ≡ from + length (leading (split 32 line.now))) × (numbers.new ≡ sets numbers.old from (leading (split 32 line.now))) }
 {
-    let mut at: usize = 0;
     let mut n = from;
-    while at <= line.len() {
-        let end = at + text_read::first_of(&line[at..], 32);
-        let Word::Number(x) = text_read::read_word(&line[at..end]) else {
+    for word in line.split(|b| *b == b' ') {
+        let Some(x) = text_read::read_word(word) else {
             return n;
         };
         numbers[n] = x;
         n += 1;
-        at = end + 1;
     }
     n
 }

@@ -1,13 +1,14 @@
 -- A number at the start of a list, by cases, what rises past it, and the place after it. Assumes nothing.
 use Prim.Native.Nat.{ℕ, suc, ◌+◌, ◌≤◌, ◌<◌}
 use borrow.Author.Tests.{eq-eqb, ne_eqb}
+use lib.Dec.{eqb}
 use lib.ListN.{length, get_or, drop, drop_of_length-le}
 use lib.Seq.{drop-cons, drop-drop}
 use mathlib.Core.Bool.{true, false}
 use mathlib.Core.List.Memᴰ
 use mathlib.Core.List.{List, [], ◌∷◌}
 use mathlib.Core.Logic.{⊎_elim, ◌≢◌}
-use mathlib.Core.Path.{◌≡◌, refl, sym}
+use mathlib.Core.Path.{◌≡◌, refl, sym, ◌∙◌}
 use native.Mathlib.Omega.{arith}
 use Rattle.model.proofs.From.{rise_least, rise_head_bin, rise_tail}
 use Rattle.model.proofs.Tests.{eq_or_ne}
@@ -53,11 +54,12 @@ module _ (v : ℕ) where
 
   -- the list from a place on
   module _ (s : List ℕ) (place : ℕ) where
-    pub begins_here : place < length s → get_or s place 0 ≡ v → begins_with v (drop place s) ≡ true
-    begins_here h e = rw (drop-cons s place 0 h) (begins_same (get_or s place 0) (drop (suc place) s) e)
+    pub begins_at : place < length s → begins_with v (drop place s) ≡ eqb (get_or s place 0) v
+    unfolding begins_with
+    begins_at h = rw (drop-cons s place 0 h)
 
-    pub begins_elsewhere : place < length s → get_or s place 0 ≢ v → begins_with v (drop place s) ≡ false
-    begins_elsewhere h e = rw (drop-cons s place 0 h) (begins_other (get_or s place 0) (drop (suc place) s) e)
+    pub begins_here : place < length s → get_or s place 0 ≡ v → begins_with v (drop place s) ≡ true
+    begins_here h e = begins_at h ∙ eq-eqb (get_or s place 0) v e
 
     pub begins_end : length s ≤ place → begins_with v (drop place s) ≡ false
     begins_end h = rw (drop_of_length-le s h) begins_nil

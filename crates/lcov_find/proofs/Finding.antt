@@ -1,10 +1,10 @@
 -- The sections of a file, line by line. Assumes nothing.
 use Prim.Native.Nat.{ℕ, zero, suc, ◌+◌, ◌-◌, ◌<◌}
 use lib.ListN.{length, get_or}
-use mathlib.Core.Bool.{Bool, true, false}
+use mathlib.Core.Bool.{Bool, true, false, not}
 use mathlib.Core.List.{List, ◌∷◌}
 use mathlib.Core.Logic.{◌≢◌}
-use mathlib.Core.Path.{◌≡◌, refl, ap, ◌∙◌}
+use mathlib.Core.Path.{◌≡◌, refl, sym, ap, ◌∙◌}
 use native.Mathlib.Omega.{arith}
 use Rattle.model.proofs.Tests.{true_false}
 use Rattle.lcov_form.specs.Form.{Line, opens, closes, Section, unclosed, section, sections}
@@ -53,15 +53,12 @@ module _ {file : List ℕ} {at end : ℕ} (k : Ends file at end) (left : ℕ) wh
   rest : List Line
   rest = lines_at file (end + 1)
 
-  pub left_inside : (inside : Bool) → inside ≡ true → closes (line_to file at end).text ≡ false → left_of file at inside left ≡ left_of file (end + 1) inside left
+  -- a line inside a section closes it or does not
+  pub left_inside : (inside closed : Bool) → inside ≡ true → closed ≡ closes (line_to file at end).text → left_of file at inside left ≡ left_of file (end + 1) (not closed) left
   unfolding line rest
-  left_inside true i t = ap (λ x. get_or x left unclosed) (ap (sections true) (lines_next k) ∙ not_closed line rest t)
-  left_inside false i t = true_false i refl
-
-  pub left_closed : (inside : Bool) → inside ≡ true → closes (line_to file at end).text ≡ true → left_of file at inside left ≡ left_of file (end + 1) false left
-  unfolding line rest
-  left_closed true i t = ap (λ x. get_or x left unclosed) (ap (sections true) (lines_next k) ∙ closed_by line rest t)
-  left_closed false i t = true_false i refl
+  left_inside true true i t = ap (λ x. get_or x left unclosed) (ap (sections true) (lines_next k) ∙ closed_by line rest (sym t))
+  left_inside true false i t = ap (λ x. get_or x left unclosed) (ap (sections true) (lines_next k) ∙ not_closed line rest (sym t))
+  left_inside false closed i t = true_false i refl
 
   pub left_outside : (inside : Bool) → inside ≡ false → opens (line_to file at end).text ≡ false → left_of file at inside left ≡ left_of file (end + 1) inside left
   unfolding line rest

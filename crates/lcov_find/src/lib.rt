@@ -9,26 +9,22 @@ ghost use Rattle.lcov_find.specs.Places.{section_at};
 pub fn find_section(file: &[u8], index: usize) -> usize
     ensures { section_at file.now result ≡ section_of file.now index }
 {
-    let mut at: usize = 0;
+    let mut at = 0;
     let mut left = index;
     let mut inside = false;
     while at <= file.len() {
-        let end = at + text_read::first_of(&file[at..], 10);
-        let next = end + 1;
+        let end = at + text_read::first_of(&file[at..], b'\n');
+        let line = &file[at..end];
+        at = end + 1;
         if inside {
-            if lcov_line::closes(&file[at..end]) {
-                inside = false;
+            inside = !lcov_line::closes(line);
+        } else if lcov_line::opens(line) {
+            if left == 0 {
+                return at;
             }
-        } else {
-            if lcov_line::opens(&file[at..end]) {
-                if left == 0 {
-                    return next;
-                }
-                left -= 1;
-                inside = true;
-            }
+            left -= 1;
+            inside = true;
         }
-        at = next;
     }
     at
 }

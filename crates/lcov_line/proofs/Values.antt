@@ -1,14 +1,20 @@
 -- The values of a `DA:` line by the digits before its first two commas. Assumes nothing.
-use Prim.Native.Nat.{ℕ, suc, ◌+◌, ◌≤◌, ◌<◌}
-use borrow.Author.Tests.{ne_eqb}
-use lib.ListN.{length, get_or, take, drop}
-use mathlib.Core.Bool.{false}
-use mathlib.Core.List.{List, []}
+use Prim.Native.Nat.{ℕ, suc, ◌+◌, ◌-◌, ◌≤◌, ◌<◌}
+use borrow.Author.Tests.{eq-eqb, ne_eqb, eqb-true}
+use lib.Dec.{eqb}
+use lib.ListN.{length, get_or, take, drop, length-drop}
+use lib.Seq.{drop-drop}
+use mathlib.Core.Bool.{true, false, not}
+use mathlib.Core.List.{List, [], ◌∷◌}
 use mathlib.Core.Logic.{◌⊎◌, inl, inr, ⊎_elim, ◌≢◌}
 use mathlib.Core.Option.{Option, none, some}
 use mathlib.Core.Path.{◌≡◌, refl, sym, ap, ◌∙◌}
 use native.Mathlib.Omega.{arith}
-use Rattle.model.proofs.Tests.{eq_or_ne, lt_or_le}
+use Rattle.model.proofs.Tests.{and_true, eq_or_ne, lt_or_le, true_false}
+use Rattle.std.specs.Prelude.{Ok}
+use Rattle.std.proofs.lemmas.List.{get_or-drop}
+use Rattle.std.specs.Bool.{then_some}
+use Rattle.std.specs.Cmp.Lexicographic.{pointwise}
 use Rattle.model.specs.Runs.{past_bin}
 use Rattle.lcov_form.specs.Form.{covered, malformed, passed_over, counted, values}
 use Rattle.lcov_form.proofs.Records.{piece, one_value, two_values}
@@ -16,7 +22,8 @@ use Rattle.text_read.specs.declared.Digits.{Digits}
 use Rattle.text_read.specs.Numbers.{is_digit, value, number, digit_count, Leads}
 use Rattle.text_read.specs.Pieces.{split, until}
 use Rattle.text_read.proofs.FirstDigits.{piece_all, piece_digits, piece_other}
-use Rattle.text_read.proofs.Pieces.{until_le}
+use Rattle.text_read.proofs.Pieces.{until_le, rest_is}
+use Rattle.lcov_line.specs.Records.{record_is}
 use Rattle.text_read.proofs.Values.{count_le, value_empty, value_not, some_digits, leading_large, leading_small}
 
 comma : is_digit 44 ≡ false
@@ -24,6 +31,12 @@ unfolding is_digit
 comma = refl
 
 -- ---- a line number and a count
+
+pub passes_over : (number count : ℕ) → count ≡ 0 → record_is (Ok (then_some (not (eqb count 0)) number)) ≡ passed_over
+passes_over number count e = rw (eq-eqb count 0 e)
+
+pub covers : (number count : ℕ) → count ≢ 0 → record_is (Ok (then_some (not (eqb count 0)) number)) ≡ covered number
+covers number count e = rw (ne_eqb count 0 e)
 
 pub no_count : (number : ℕ) → counted (some number) none ≡ malformed
 unfolding counted
@@ -83,6 +96,29 @@ module _ (text : List ℕ) (digits : Digits) (d : Leads text digits) where
       (λ (h : length text ≤ digits.count). nothing (piece_stands (inr h) ∙ e))
       (lt_or_le digits.count (length text))
 
+-- ---- whether a comma follows the digits
+
+comma_first : (l : List ℕ) → pointwise eqb (take 1 l) (44 ∷ []) ≡ true → (0 < length l) × (get_or l 0 0 ≡ 44)
+comma_first [] e = true_false e refl
+comma_first (b ∷ l) e = (omega arith, eqb-true b 44 (and_true (eqb b 44) true e).0)
+
+other_first : (l : List ℕ) → pointwise eqb (take 1 l) (44 ∷ []) ≡ false → 0 < length l → get_or l 0 0 ≢ 44
+other_first [] e h q = omega (arith, h)
+other_first (b ∷ l) e h q = true_false (rw (eq-eqb b 44 q) refl) e
+
+module _ (text : List ℕ) (n : ℕ) where
+  first_at : get_or (drop n text) 0 0 ≡ get_or text n 0
+  first_at = get_or-drop n text 0 0 ∙ ap (λ i. get_or text i 0) (omega arith)
+
+  pub after_comma : drop 1 (take (length text - n) (drop n text)) ≡ drop (n + 1) text
+  after_comma = ap (drop 1) (rest_is text n) ∙ drop-drop 1 n text
+
+  pub comma_follows : pointwise eqb (take 1 (take (length text - n) (drop n text))) (44 ∷ []) ≡ true → (n < length text) × (get_or text n 0 ≡ 44)
+  comma_follows e = let h = comma_first (drop n text) (rw (rest_is text n) at e) in (omega (arith, h.0, length-drop n text), sym (first_at) ∙ h.1)
+
+  pub other_follows : pointwise eqb (take 1 (take (length text - n) (drop n text))) (44 ∷ []) ≡ false → n < length text → get_or text n 0 ≢ 44
+  other_follows e h q = other_first (drop n text) (rw (rest_is text n) at e) (omega (arith, h, length-drop n text)) (first_at ∙ q)
+
 -- ---- the two values
 
 no_number : (text : List ℕ) → number (piece text) ≡ none → values (split 44 text) ≡ malformed
@@ -98,14 +134,11 @@ unfolding number
 number_none word e = rw (e, number)
 
 module _ (text : List ℕ) (digits : Digits) (d : Leads text digits) where
-  pub no_comma : digits.count ≡ length text → values (split 44 text) ≡ malformed
-  no_comma e = one_value text (piece_stands text digits d (inr (omega (arith, e))) ∙ e)
-
-  pub count_inside : digits.count ≢ length text → digits.count < length text
-  count_inside h = let c = d.counts in let k = count_le text in omega (arith, c, k, h)
+  pub count_inside : digits.count ≤ length text
+  count_inside = let c = d.counts in let k = count_le text in omega (arith, c, k)
 
   module _ (h : digits.count < length text) where
-    pub other_byte : get_or text digits.count 0 ≢ 44 → values (split 44 text) ≡ malformed
+    other_byte : get_or text digits.count 0 ≢ 44 → values (split 44 text) ≡ malformed
     other_byte e = no_number text (number_none (piece text) (piece_none text digits d h e))
 
     module _ (e : get_or text digits.count 0 ≡ 44) where
@@ -133,3 +166,12 @@ module _ (text : List ℕ) (digits : Digits) (d : Leads text digits) where
 
       pub line_counted : digits.value ≢ 0 → digits.value < past_bin → values (split 44 text) ≡ counted (some digits.value) (value (piece (drop (digits.count + 1) text)))
       line_counted k l = both_values (leading_small text digits d (some_digits text digits d k) l)
+
+  -- no comma follows them
+  pub no_comma : pointwise eqb (take 1 (take (length text - digits.count) (drop digits.count text))) (44 ∷ []) ≡ false → values (split 44 text) ≡ malformed
+  no_comma e =
+      let k = count_inside in
+      ⊎_elim
+      (λ (h : digits.count < length text). other_byte h (other_follows text digits.count e h))
+      (λ (h : length text ≤ digits.count). one_value text (piece_stands text digits d (inr h) ∙ omega (arith, h, k)))
+      (lt_or_le digits.count (length text))

@@ -1,9 +1,9 @@
--- What the code's enum means. Definitions only.
-use Rattle.lcov_form.specs.Form as form
-use Rattle.lcov_line.specs.declared.Record.{Record}
-use Rattle.lcov_line.specs.declared.Record.TheVariants.{Covered, Malformed, PassedOver}
+-- What the code's results mean. Definitions only.
+use Rattle.std.specs.Prelude.{ℕ, Option, Some, None, Result, Ok, Err}
+use Rattle.lcov_form.specs.Form.{Record, covered, malformed, passed_over}
+use Rattle.lcov_line.specs.declared.Malformed.{Malformed}
 
-abbrev pub record_is : Record → form.Record
-record_is (Covered x) = form.covered x
-record_is Malformed = form.malformed
-record_is PassedOver = form.passed_over
+abbrev pub record_is : Result (Option ℕ) Malformed → Record
+record_is (Ok (Some x)) = covered x
+record_is (Ok None) = passed_over
+record_is (Err fault) = malformed

@@ -8,75 +8,60 @@ ghost use Rattle.text_read.specs.Numbers.{value};
 ghost use Rattle.text_read.specs.Pieces.{split, until};
 ghost use Rattle.lcov_line.specs.Records.{record_is};
 
-#[derive(Drop)]
-pub enum Record {
-    Covered(u32),
-    Malformed,
-    PassedOver,
-}
+// A `DA:` record that is not of the form.
+#[derive(Clone, Copy)]
+pub struct Malformed;
 
 // What follows the comma after a line number, which is above 0: a count, which may have any number of digits.
-fn read_count(text: &[u8], number: u32) -> Record
+fn read_count(text: &[u8], number: u32) -> Result<Option<u32>, Malformed>
     requires { 0 < number }
     ensures { record_is result ≡ counted (some number) (value (take (until 44 text.now) text.now)) }
 {
     let count = text_read::leading_digits(text);
     let end = count.count;
     if end == 0 {
-        return Record::Malformed;
+        return Err(Malformed);
     }
-    if end < text.len() {
-        if text[end] != 44 {
-            return Record::Malformed;
-        }
+    if end < text.len() && text[end] != b',' {
+        return Err(Malformed);
     }
-    if count.value == 0 {
-        return Record::PassedOver;
-    }
-    Record::Covered(number)
+    Ok((count.value != 0).then_some(number))
 }
 
 // What follows `DA:`: a line number, a comma and a count. A value of 0 is that of no digits, or of line 0.
-fn read_values(text: &[u8]) -> Record
+fn read_values(text: &[u8]) -> Result<Option<u32>, Malformed>
     ensures { record_is result ≡ values (split 44 text.now) }
 {
     let line = text_read::leading_digits(text);
-    let end = line.count;
-    if end == text.len() {
-        return Record::Malformed;
+    let Some(count) = text[line.count..].strip_prefix(b",") else {
+        return Err(Malformed);
+    };
+    if line.value == 0 || line.value >= limits::PAST_BIN {
+        return Err(Malformed);
     }
-    if text[end] != 44 {
-        return Record::Malformed;
-    }
-    if line.value == 0 {
-        return Record::Malformed;
-    }
-    if limits::PAST_BIN <= line.value {
-        return Record::Malformed;
-    }
-    read_count(&text[end + 1..], line.value as u32)
+    read_count(count, line.value as u32)
 }
 
-// A line of a section.
-pub fn read_record(line: &[u8]) -> Record
+// The line number that a line of a section covers, if it covers one.
+pub fn read_record(line: &[u8]) -> Result<Option<u32>, Malformed>
     ensures { record_is result ≡ record_of line.now }
 {
-    if text_match::begins(line, b"DA:") {
-        return read_values(&line[3..]);
+    match line.strip_prefix(b"DA:") {
+        Some(text) => read_values(text),
+        None => Ok(None),
     }
-    Record::PassedOver
 }
 
 // Whether a line opens a section where none is open.
 pub fn opens(line: &[u8]) -> bool
     ensures { result ≡ opens line.now }
 {
-    text_match::begins(line, b"SF:")
+    line.starts_with(b"SF:")
 }
 
 // Whether a line closes the section that is open.
 pub fn closes(line: &[u8]) -> bool
     ensures { result ≡ closes line.now }
 {
-    text_match::same(line, b"end_of_record")
+    line == b"end_of_record".as_slice()
 }

@@ -15,7 +15,10 @@ use Rattle.lcov_form.proofs.Steps.{line_malformed, line_passed, line_unrisen, li
 use Rattle.lcov_find.specs.Places.{section_at}
 use Rattle.lcov_find.proofs.Lines.{lines_past, Ends, line_to, lines_next}
 use Rattle.row_fill.specs.Filling.{check_is, count_is, Returns}
-use Rattle.row_fill.specs.declared.Filled.{Filled}
+use Rattle.row_fill.specs.declared.Unfilled.{Unfilled}
+use Rattle.std.specs.Prelude.{Result, Err}
+use Rattle.refusal.specs.Number.{number_of, refusal_of}
+use Rattle.refusal.specs.declared.Reason.{Reason}
 
 -- what is read from a place on
 abbrev pub rest_of : List ℕ → ℕ → ℕ → ℕ → ℕ → Reading
@@ -84,7 +87,7 @@ module _ {whole rest : Reading} {row₀ row : List ℕ} {n : ℕ} (p : Progress 
         lengths = length-set row n x ∙ p.lengths;
       }
 
-  pub progress_stop : (outcome : Filled) → rest ≡ stop (check_is outcome) → count_is outcome ≡ n → length whole.run ≤ length row₀
+  pub progress_stop : (outcome : Result ℕ Unfilled) → rest ≡ stop (check_is outcome) → count_is outcome ≡ n → length whole.run ≤ length row₀
       → Returns (result_of whole row₀) outcome row
   unfolding result_of stop
   progress_stop outcome e c h =
@@ -93,3 +96,7 @@ module _ {whole rest : Reading} {row₀ row : List ℕ} {n : ℕ} (p : Progress 
         count_agrees = let q = ap (λ r. length r.run) e in let k = p.counts in omega (arith, q, k, c);
         row_is = sym (ap (λ r. sets row n r.run) e) ∙ (sym p.rows ∙ over_sets whole.run row₀ h);
       }
+
+  pub progress_refused : {reason : Reason} {place : ℕ} (u : Unfilled) → u ≡ record { refusal = record { reason = reason; place = place }; count = n }
+      → rest ≡ stop (refusal (number_of reason) place) → length whole.run ≤ length row₀ → Returns (result_of whole row₀) (Err u) row
+  progress_refused u q e h = progress_stop (Err u) (e ∙ ap (λ v. stop (refusal_of v.refusal)) (sym q)) (ap (λ v. v.count) q) h

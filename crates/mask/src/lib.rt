@@ -7,15 +7,12 @@ ghost use Rattle.std.specs.Int.Count.{ones};
 ghost use Rattle.model.specs.Runs.{bit, mask_bits};
 ghost use Rattle.mask.specs.Mask.{Others, Lowest, LowestGone, Highest};
 
-// How many runs a mask can speak of.
-const MASK_BITS: u32 = 64;
-
 // The mask that names `run` alone.
 pub fn only_run(run: u32) -> u64
     requires { run < mask_bits }
     ensures { result ≡ 2 ^ run }
 {
-    1u64 << run
+    1 << run
 }
 
 // Whether the mask names `run`.
@@ -31,10 +28,7 @@ pub fn names_only_below(mask: u64, k: u32) -> bool
     requires { k ≤ mask_bits }
     ensures { result ≡ eqb (mask / 2 ^ k) 0 }
 {
-    if k == MASK_BITS {
-        return true;
-    }
-    mask >> k == 0
+    k == u64::BITS || mask >> k == 0
 }
 
 // Whether the mask names only runs that `chosen` names.
@@ -56,7 +50,7 @@ pub fn others(all: u64, mask: u64) -> u64
 pub fn ones_of(mask: u64) -> u32
     ensures { result ≡ ones mask }
 {
-    u64::count_ones(mask)
+    mask.count_ones()
 }
 
 // The lowest run that the mask names.
@@ -64,7 +58,7 @@ pub fn lowest_run(mask: u64) -> u32
     requires { 0 < mask }
     ensures { Lowest mask result }
 {
-    u64::trailing_zeros(mask)
+    mask.trailing_zeros()
 }
 
 // The mask that names its lowest run no more.
@@ -80,7 +74,7 @@ pub fn highest_run(mask: u64) -> u32
     requires { 0 < mask }
     ensures { Highest mask result }
 {
-    MASK_BITS - 1 - u64::leading_zeros(mask)
+    mask.ilog2()
 }
 
 // The mask that names `run` no more, the same where it did not.
@@ -88,10 +82,7 @@ pub fn without_run(mask: u64, run: u32) -> u64
     requires { run < mask_bits }
     ensures { result + bit mask run * 2 ^ run ≡ mask }
 {
-    if names_run(mask, run) {
-        return mask - only_run(run);
-    }
-    mask
+    mask & !only_run(run)
 }
 
 // The mask that names all the runs below `k`.
@@ -99,8 +90,9 @@ pub fn all_runs(k: usize) -> u64
     requires { k ≤ mask_bits }
     ensures { result ≡ 2 ^ k - 1 }
 {
-    if k == MASK_BITS as usize {
-        return 18446744073709551615;
+    if k == u64::BITS as usize {
+        u64::MAX
+    } else {
+        (1 << k) - 1
     }
-    (1u64 << k) - 1
 }

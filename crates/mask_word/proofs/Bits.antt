@@ -1,8 +1,8 @@
 -- A run's own mask, the bits of two masks together, those of a mask that another has not, a mask with a run's bit set (its other bits stay, and where the bit
 -- was 0 the mask grows by 2 to the power of the run) or cleared, the bits of a shifted mask, and a run's bit tested. Stated over the run and the width. Assumes
 -- nothing.
-use Prim.Native.Nat.{ℕ, zero, suc, ◌+◌, ◌-◌, ◌*◌, ◌/◌, ◌%◌, ◌^◌, ◌≤◌, ◌<◌, min, max}
-use lib.Bits.{bit_and, bit_or, bit_xor, differ, and_step, and_shr, and_comm, xor_add_and, or_step, or_shr, xor_step, xor_shr, or_disjoint, and_block, and_mask, and_zero_r}
+use Prim.Native.Nat.{ℕ, zero, suc, ◌+◌, ◌-◌, ◌*◌, ◌/◌, ◌%◌, ◌^◌, ◌≤◌, ◌<◌, max}
+use lib.Bits.{bit_and, bit_or, bit_xor, differ, and_comm, xor_add_and, or_step, or_shr, xor_step, xor_shr, or_disjoint, and_block, and_mask, and_zero_r}
 use lib.Pow.{pow_pos, pow-lt, pow-add, shl-shr, shr-shr, split, high}
 use lib.Dec.{eqb, ltb}
 use borrow.Author.Tests.{eqb-true, eq-eqb, ltb-true, ltb-false}

@@ -5,11 +5,8 @@
 ghost use Rattle.std.specs.Prelude.{◌≡◌, ◌+◌, ◌*◌, ◌^◌, ◌≤◌, ◌<◌, ltb};
 ghost use Rattle.mask_word.specs.Runs.{word_is, Lowest, LowestGone, Highest, HighestGone};
 
-// The place of a word's highest bit.
-const HIGHEST_BIT: u32 = 63;
-
 // Bit i of a word speaks of run base + i.
-#[derive(Drop)]
+#[derive(Clone, Copy, Debug, PartialEq, Eq)]
 pub struct Word {
     pub bits: u64,
     pub base: u8,
@@ -19,10 +16,7 @@ pub struct Word {
 pub fn word_at(bits: u64, base: u8) -> Word
     ensures { (result.bits ≡ bits) × (result.base ≡ base) }
 {
-    Word {
-        bits: bits,
-        base: base,
-    }
+    Word { bits, base }
 }
 
 // The word with each of its runs one up, and its lowest named or not, `named` being 1 or 0: a word is made of its runs from the highest down.
@@ -32,7 +26,7 @@ pub fn with_lower(word: Word, named: usize) -> Word
 {
     Word {
         bits: word.bits * 2 + named as u64,
-        base: word.base,
+        ..word
     }
 }
 
@@ -48,7 +42,7 @@ pub fn lowest_run(word: Word) -> u32
     requires { 0 < word_is word }
     ensures { Lowest (word_is word) result }
 {
-    word.base as u32 + u64::trailing_zeros(word.bits)
+    u32::from(word.base) + word.bits.trailing_zeros()
 }
 
 // The word that names its lowest run no more.
@@ -58,7 +52,7 @@ pub fn without_lowest(word: Word) -> Word
 {
     Word {
         bits: word.bits & (word.bits - 1),
-        base: word.base,
+        ..word
     }
 }
 
@@ -67,7 +61,7 @@ pub fn highest_run(word: Word) -> u32
     requires { 0 < word_is word }
     ensures { Highest (word_is word) result }
 {
-    word.base as u32 + (HIGHEST_BIT - u64::leading_zeros(word.bits))
+    u32::from(word.base) + word.bits.ilog2()
 }
 
 // The word that names its highest run no more.
@@ -76,7 +70,7 @@ pub fn without_highest(word: Word) -> Word
     ensures { HighestGone (word_is word) (word_is result) }
 {
     Word {
-        bits: word.bits - (1u64 << (HIGHEST_BIT - u64::leading_zeros(word.bits))),
-        base: word.base,
+        bits: word.bits - (1 << word.bits.ilog2()),
+        ..word
     }
 }

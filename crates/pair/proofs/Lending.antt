@@ -1,32 +1,19 @@
 -- The two runs of a pair as the code lends them: what the first checks say, where their bins stand, and that these rise. Assumes nothing.
 use Prim.Native.Nat.{ℕ, ◌-◌}
-use borrow.Author.Tests.{eq-eqb, ne_eqb}
 use lib.ListN.{length, get_or, drop, length-take, length-drop}
 use mathlib.Core.List.{List}
-use mathlib.Core.Logic.{◌≢◌}
 use mathlib.Core.Path.{◌≡◌, sym, ap, ◌∙◌}
 use native.Mathlib.Omega.{arith}
 use Rattle.first_bin.proofs.Places.{bins_from}
 use Rattle.first_bin.specs.Lent.{LentAt, first_bin_at}
 use Rattle.model.proofs.From.{from_length}
 use Rattle.model.specs.Demands.{Fits}
-use Rattle.model.specs.Refusals.{passed, refusal, ◌then◌, refuse_if, list_checks}
+use Rattle.model.specs.Refusals.{passed}
 use Rattle.model.specs.Runs.{first_bin, past_bin, slice, from, runs}
 use Rattle.pair_model.proofs.Lent.{pair_runs, pair_inside, pair_few, pair_lent, pair_rise}
 use Rattle.pair_model.proofs.Sides.{rise_weaken}
 use Rattle.pair_model.specs.Pair.{partition, found_in, partition_of, pair_checks}
 use Rattle.pair_partition.specs.Sides.{Risen}
-
--- ---- the first checks
-
-module _ (numbers ends : List ℕ) where
-  pub other_number : length ends ≢ 2 → refusal 1 (length ends) ≡ pair_checks numbers ends
-  unfolding pair_checks refuse_if ◌then◌
-  other_number h = rw (ne_eqb (length ends) 2 h)
-
-  pub two_runs : length ends ≡ 2 → list_checks numbers ends ≡ pair_checks numbers ends
-  unfolding pair_checks refuse_if ◌then◌
-  two_runs h = rw (eq-eqb (length ends) 2 h)
 
 -- ---- a run's bins
 

@@ -22,7 +22,8 @@ use Rattle.model.specs.Demands.{Fits, Exact}
 use Rattle.model.specs.Refusals.{Check, passed, refusal, refuse_if, over}
 use Rattle.model.specs.Runs.{Run, first_bin, past_bin, slice, from, runs_from, runs, holds, total, one, weight_of}
 use Rattle.row_fill.specs.Filling.{check_is, count_is, Returns}
-use Rattle.row_fill.specs.declared.Filled.{Filled}
+use Rattle.row_fill.specs.declared.Unfilled.{Unfilled}
+use Rattle.std.specs.Prelude.{Result}
 use Rattle.pair_model.proofs.Both.{found_both}
 use Rattle.pair_model.proofs.Lent.{pair_two, pair_ends, pair_listed, pair_runs, pair_rise}
 use Rattle.pair_model.proofs.Unique.{lists_same}
@@ -86,7 +87,7 @@ passed_refusal e f = absurd (let z : ◌≡◌ {A = ℕ} 0 1 = cc in omega arith
 
 -- what is returned and written where these are found
 module _ (found row : List ℕ) where
-  filled_front : (r : Filled) (row' : List ℕ) → Returns (filled_with found row) r row' → take (count_is r) row' ≡ take (length row) found
+  filled_front : (r : Result ℕ Unfilled) (row' : List ℕ) → Returns (filled_with found row) r row' → take (count_is r) row' ≡ take (length row) found
   unfolding filled_with over
   filled_front r row' g = rw (g.count_agrees, g.row_is) (take-append_seam (take (length row) found) _)
 
@@ -98,7 +99,7 @@ module _ (found row : List ℕ) where
   unfolding filled_with refuse_if
   filled_full h = rw (lt-ltb (length row) (length found) h) (ap (refusal 5) (length-take-le (length row) found (omega arith)))
 
-filled_claimed : (rs : List Run) (row : List ℕ) (r : Filled) (row' : List ℕ) → Exact rs 2 (answers_of (whole_certificate 2 rs))
+filled_claimed : (rs : List Run) (row : List ℕ) (r : Result ℕ Unfilled) (row' : List ℕ) → Exact rs 2 (answers_of (whole_certificate 2 rs))
     → Returns (filled_with (answers_of (whole_certificate 2 rs)) row) r row' → PairAnswers rs (check_is r) (length row) (take (count_is r) row')
 filled_claimed rs row r row' x g =
     let found = answers_of (whole_certificate 2 rs) in
@@ -116,7 +117,7 @@ pub pair_filled : (numbers ends row : List ℕ) → pair_checks numbers ends ≡
 unfolding pair filled_after
 pair_filled numbers ends row h = rw h
 
-pub pair_claimed : (numbers ends row : List ℕ) (r : Filled) (row' : List ℕ) → Fits past_bin numbers → Returns (pair numbers ends row) r row'
+pub pair_claimed : (numbers ends row : List ℕ) (r : Result ℕ Unfilled) (row' : List ℕ) → Fits past_bin numbers → Returns (pair numbers ends row) r row'
     → PairDemand2 numbers ends (length row) (check_is r) (count_is r) row'
 pair_claimed numbers ends row r row' fits g =
     record {

@@ -12,7 +12,8 @@ use native.Mathlib.Omega.{arith}
 use Rattle.model.proofs.Tests.{both}
 use Rattle.row_fill.proofs.Keeping.{Keeping, keeping_start, keeping_end, keeping_full, keeping_put}
 use Rattle.row_fill.specs.Keeps.{Keeps}
-use Rattle.row_fill.specs.declared.Kept.TheVariants.{All, Full}
+use Rattle.refusal.specs.declared.Reason.TheVariants.{AnswersFull}
+use Rattle.std.specs.Prelude.{Ok, Err}
 use Rattle.pair_partition.specs.Sides.{pivot_in}
 use Rattle.pair_partition.specs.declared.Split.{Split}
 
@@ -37,11 +38,11 @@ module _ (s : Split) where
     due : {l : List ℕ} → pivot_in s ≡ l → Keeping (take count row ++ pivot_in s) row row count l
     due e = subst (λ l. Keeping (take count row ++ pivot_in s) row row count l) e (keeping_start row count (pivot_in s) h)
 
-    pub put_none : pivot_in s ≡ [] → Keeps (take count row ++ pivot_in s) row row (All count)
+    pub put_none : pivot_in s ≡ [] → Keeps (take count row ++ pivot_in s) row row (Ok count)
     put_none e = keeping_end (due e)
 
-    pub put_full : pivot_in s ≡ s.pivot ∷ [] → count ≡ length row → Keeps (take count row ++ pivot_in s) row row Full
+    pub put_full : pivot_in s ≡ s.pivot ∷ [] → count ≡ length row → Keeps (take count row ++ pivot_in s) row row (Err AnswersFull)
     put_full e l = keeping_full (due e) l
 
-    pub put_one : pivot_in s ≡ s.pivot ∷ [] → count ≢ length row → Keeps (take count row ++ pivot_in s) row (set row count s.pivot) (All (count + 1))
+    pub put_one : pivot_in s ≡ s.pivot ∷ [] → count ≢ length row → Keeps (take count row ++ pivot_in s) row (set row count s.pivot) (Ok (count + 1))
     put_one e l = rw (add-one count) (keeping_end (keeping_put (due e) (omega arith)))

@@ -1,13 +1,13 @@
--- Two sides split where the code splits them: the answers of the partition, and the sides below and above the pivot, which are within the lists and rise, and whose
--- shorter length falls. Assumes nothing.
+-- Two sides split where the code splits them: the answers of the partition, and the sides below and above the pivot, which are within the lists and rise, and
+-- whose shorter length falls. Assumes nothing.
 use Prim.Native.Nat.{ℕ, ◌+◌, ◌-◌, ◌/◌, ◌≤◌, ◌<◌, min}
 use borrow.Author.Tests.{eq-eqb, ne_eqb}
 use lib.Dec.{eqb}
-use lib.ListN.{length, get_or, take, drop, length-take, length-drop}
+use lib.ListN.{length, get_or, take, drop}
 use mathlib.Core.Bool.{true, false}
 use mathlib.Core.List.{List, [], ◌++◌}
 use mathlib.Core.Logic.{⊎_elim, ◌≢◌}
-use mathlib.Core.Path.{◌≡◌, refl, ap, ap₂, ◌∙◌}
+use mathlib.Core.Path.{◌≡◌, refl, ap, ◌∙◌}
 use native.Mathlib.Omega.{arith}
 use Rattle.insertion_rank.proofs.Passed.{begins_here, begins_end, drop_after}
 use Rattle.insertion_rank.specs.Passed.{begins_with, passed_over}
@@ -17,8 +17,8 @@ use Rattle.model.specs.Compared.{digits}
 use Rattle.model.specs.Runs.{rank, one}
 use Rattle.pair_model.proofs.Sides.{rise_take, rise_drop}
 use Rattle.pair_model.proofs.Splitting.{half_digits, split_of_first, split_of_second, split_inside, below_half, above_half, partition_none, partition_split}
-use Rattle.pair_model.specs.Pair.{split_of, pivot_of, partition, found_in}
-use Rattle.pair_partition.specs.Sides.{Entered, SplitsAt, Splits, pivot_in}
+use Rattle.pair_model.specs.Pair.{middle, split_of, pivot_of, partition, found_in}
+use Rattle.pair_partition.specs.Sides.{Sides, Entered, MiddleOf, SplitsAt, Splits, pivot_in}
 use Rattle.pair_partition.specs.declared.Places.{Places}
 use Rattle.pair_partition.specs.declared.Split.{Split}
 
@@ -59,22 +59,34 @@ middle_splits : (s : List ℕ) (m : ℕ) → m < length s → SplitsAt (get_or s
 unfolding one
 middle_splits s m h = record { below = refl; above = rw (begins_here (get_or s m 0) s m h refl, one) }
 
-module _ {a b : List ℕ} (e : Entered a b) (m : ℕ) where
-  pub split_first : length a ≤ length b → m ≡ length a / 2 → {at : Places} → SplitsAt (get_or a m 0) b (rank (get_or a m 0) b) at
-      → Splits a b (record { pivot = get_or a m 0; first = record { below = m; above = m + 1 }; second = at })
-  split_first h q c =
+module _ {a b : List ℕ} (e : Entered a b) {pivot : ℕ} {at other : Places} where
+  pub split_first : length a ≤ length b → MiddleOf a pivot at → SplitsAt pivot b (rank pivot b) other
+      → Splits a b (record { pivot = pivot; first = at; second = other })
+  unfolding middle
+  split_first h m c =
       let p = e.some in
-      let i : m < length a = omega arith in
-      let l : split_of a b ≡ record { pivot = get_or a m 0; first = m; second = rank (get_or a m 0) b } = rw q (split_of_first a b (rise_ordered e.second) h) in
-      record { pivot = rw l; first = rw l (middle_splits a m i); second = rw l c }
+      let i : length a / 2 < length a = omega arith in
+      let l = split_of_first a b (rise_ordered e.second) h in
+      let d = middle_splits a (length a / 2) i in
+      record {
+        pivot = rw l m.number;
+        first = rw l (record { below = m.below; above = m.above ∙ d.above });
+        second = rw (l, ← m.number) c;
+      }
 
-  pub split_second : length b < length a → m ≡ length b / 2 → {at : Places} → SplitsAt (get_or b m 0) a (rank (get_or b m 0) a) at
-      → Splits a b (record { pivot = get_or b m 0; first = at; second = record { below = m; above = m + 1 } })
-  split_second h q c =
+  pub split_second : length b < length a → MiddleOf b pivot at → SplitsAt pivot a (rank pivot a) other
+      → Splits a b (record { pivot = pivot; first = other; second = at })
+  unfolding middle
+  split_second h m c =
       let p = e.some in
-      let i : m < length b = omega arith in
-      let l : split_of a b ≡ record { pivot = get_or b m 0; first = rank (get_or b m 0) a; second = m } = rw q (split_of_second a b (rise_ordered e.first) h) in
-      record { pivot = rw l; first = rw l c; second = rw l (middle_splits b m i) }
+      let i : length b / 2 < length b = omega arith in
+      let l = split_of_second a b (rise_ordered e.first) h in
+      let d = middle_splits b (length b / 2) i in
+      record {
+        pivot = rw l m.number;
+        first = rw (l, ← m.number) c;
+        second = rw l (record { below = m.below; above = m.above ∙ d.above });
+      }
 
 -- ---- both lists
 
@@ -121,30 +133,14 @@ module _ {a b : List ℕ} {s : Split} (e : Entered a b) (h : Splits a b s) where
 
   -- ---- the sides
 
-  below_length : min (length (take s.first.below a)) (length (take s.second.below b)) ≡ min s.first.below s.second.below
-  below_length = let w = below_within in omega (arith, length-take s.first.below a, length-take s.second.below b)
-
-  pub below_entered : 0 < min s.first.below s.second.below → Entered (take s.first.below a) (take s.second.below b)
-  below_entered p =
-      let l = below_length in
-      record { first = rise_take s.first.below a e.first; second = rise_take s.second.below b e.second; some = omega arith }
-
-  pub below_none : min s.first.below s.second.below ≡ 0 → found_below ≡ []
-  below_none p = none_found _ _ (below_length ∙ p)
+  pub below_sides : Sides (take s.first.below a) (take s.second.below b)
+  below_sides = record { first = rise_take s.first.below a e.first; second = rise_take s.second.below b e.second }
 
   pub below_shorter : min (length (take s.first.below a)) (length (take s.second.below b)) ≤ min (length a) (length b) / 2
   below_shorter = rw (h.first.below, h.second.below) (below_half a b e.some)
 
-  above_length : min (length (drop s.first.above a)) (length (drop s.second.above b)) ≡ min (length a - s.first.above) (length b - s.second.above)
-  above_length = ap₂ min (length-drop s.first.above a) (length-drop s.second.above b)
-
-  pub above_entered : min (length a - s.first.above) (length b - s.second.above) ≢ 0 → Entered (drop s.first.above a) (drop s.second.above b)
-  above_entered p =
-      let l = above_length in
-      record { first = rise_drop s.first.above a e.first; second = rise_drop s.second.above b e.second; some = omega arith }
-
-  pub above_none : min (length a - s.first.above) (length b - s.second.above) ≡ 0 → found_above ≡ []
-  above_none p = none_found _ _ (above_length ∙ p)
+  pub above_sides : Sides (drop s.first.above a) (drop s.second.above b)
+  above_sides = record { first = rise_drop s.first.above a e.first; second = rise_drop s.second.above b e.second }
 
   pub above_shorter : min (length (drop s.first.above a)) (length (drop s.second.above b)) ≤ min (length a) (length b) / 2
   above_shorter = rw (drop_above h.first, drop_above h.second) (above_half a b e.some)

@@ -1,9 +1,9 @@
 -- Two sides of a pair of runs, and where they are split, as the code has it. Definitions only.
-use Rattle.std.specs.Prelude.{ℕ, ◌+◌, ◌≤◌, ◌<◌, min, true, false, ◌||◌, List, [], ◌∷◌, ◌≡◌, eqb, length, drop}
+use Rattle.std.specs.Prelude.{ℕ, ◌+◌, ◌≤◌, ◌<◌, min, true, false, ◌||◌, List, [], ◌∷◌, ◌≡◌, eqb, length, get_or, drop}
 use Rattle.insertion_rank.specs.Passed.{begins_with}
 use Rattle.model.specs.Rows.{Rise}
 use Rattle.model.specs.Runs.{most_numbers, one}
-use Rattle.pair_model.specs.Pair.{split_of}
+use Rattle.pair_model.specs.Pair.{middle, split_of}
 use Rattle.pair_partition.specs.declared.Places.{Places}
 use Rattle.pair_partition.specs.declared.Split.{Split}
 
@@ -12,6 +12,11 @@ pub record Risen (a b : List ℕ) : Type 0 where
   pub first : Rise 0 a
   pub second : Rise 0 b
   pub few : length a ≤ most_numbers
+
+-- two sides, which rise
+pub record Sides (a b : List ℕ) : Type 0 where
+  pub first : Rise 0 a
+  pub second : Rise 0 b
 
 -- two sides that are entered: neither is empty
 pub record Entered (a b : List ℕ) : Type 0 where
@@ -23,6 +28,12 @@ pub record Entered (a b : List ℕ) : Type 0 where
 pub record SplitsAt (pivot : ℕ) (s : List ℕ) (place : ℕ) (at : Places) : Type 0 where
   pub below : at.below ≡ place
   pub above : at.above ≡ place + one (begins_with pivot (drop place s))
+
+-- The middle number of a list splits it at its own place.
+pub record MiddleOf (s : List ℕ) (pivot : ℕ) (at : Places) : Type 0 where
+  pub number : pivot ≡ get_or s (middle s) 0
+  pub below : at.below ≡ middle s
+  pub above : at.above ≡ middle s + 1
 
 -- Both are split where the partition splits them.
 pub record Splits (a b : List ℕ) (s : Split) : Type 0 where

@@ -19,7 +19,10 @@ use Rattle.walk_progress.proofs.Progress.{onward_start}
 use Rattle.walk_tally.specs.Tally.{left_in, halved_in, undoubled}
 use Rattle.walk_write.specs.Writes.{counts_of, ends_with}
 use Rattle.walk_whole.specs.Whole.{asked_runs, counts_from, ComesTo}
-use Rattle.walk_rounds.specs.declared.End.{End}
+use Rattle.std.specs.Prelude.{Result}
+use Rattle.walk_rounds.specs.Ends.{number_at, state_at}
+use Rattle.walk_write.specs.declared.State.{State}
+use Rattle.walk_write.specs.declared.Stopped.{Stopped}
 use Rattle.query.specs.Answerable.{Answerable}
 use Rattle.query.specs.Outcomes.{Returns}
 
@@ -72,8 +75,8 @@ module _ (numbers ends ws : List ℕ) (m : ℕ) (f : m ≡ 2 ^ length ends - 1) 
   all_met t a = let e = ap weight_of_all all_asked in let h = a.met in omega arith
 
   -- a question over all runs, where nothing is written yet and the whole allowance is left
-  asked : (t allowance tally : ℕ) (A B A' B' : List ℕ) (r : End) → (left_in tally ≡ allowance) × (halved_in tally ≡ 0) → ComesTo numbers ends ws m t 0 0 tally A B A' B' r
-      → answered_by passed (weighted ws (runs numbers ends)) t allowance A B ≡ ends_with r.number allowance r.at A' B'
+  asked : (t allowance tally : ℕ) (A B A' B' : List ℕ) (r : Result State Stopped) → (left_in tally ≡ allowance) × (halved_in tally ≡ 0) → ComesTo numbers ends ws m t 0 0 tally A B A' B' r
+      → answered_by passed (weighted ws (runs numbers ends)) t allowance A B ≡ ends_with (number_at r) allowance (state_at r) A' B'
   unfolding answered_by checked_first no_counts counts_from
   asked t allowance tally A B A' B' r l h =
       let z : 0 ≡ allowance - undoubled tally = omega (arith, l.0) in
@@ -82,8 +85,8 @@ module _ (numbers ends ws : List ℕ) (m : ℕ) (f : m ≡ 2 ^ length ends - 1) 
       ∙ ((λ i. onward allowance (record { answers = 0; parts = 0; bytes = 0; doublings = z i; halvings = y i }) A B (whole_walk t (sym all_asked i)))
       ∙ h.as_asked allowance (omega (arith, l.0, l.1)))
 
-  pub ends_so : (t allowance tally : ℕ) (A B A' B' : List ℕ) (r : End) (o : Outcome) → (left_in tally ≡ allowance) × (halved_in tally ≡ 0)
-      → ComesTo numbers ends ws m t 0 0 tally A B A' B' r → o ≡ outcome_at r.number (counts_of allowance r.at)
+  pub ends_so : (t allowance tally : ℕ) (A B A' B' : List ℕ) (r : Result State Stopped) (o : Outcome) → (left_in tally ≡ allowance) × (halved_in tally ≡ 0)
+      → ComesTo numbers ends ws m t 0 0 tally A B A' B' r → o ≡ outcome_at (number_at r) (counts_of allowance (state_at r))
       → Returns (answered_by passed (weighted ws (runs numbers ends)) t allowance A B) o A' B'
   unfolding ends_with ended
   ends_so t allowance tally A B A' B' r o l h e =

@@ -21,17 +21,20 @@ use Rattle.query_alone.specs.Others.{RunsPlaced, Walked, in_gaps_of, FoundAfter}
 use Rattle.query_difference.specs.Gaps.{in_gaps}
 use Rattle.row_fill.proofs.Keeping.{keeps_row}
 use Rattle.row_fill.specs.Keeps.{Keeps}
-use Rattle.row_fill.specs.declared.Kept.{Kept}
-use Rattle.row_fill.specs.declared.Kept.TheVariants.{All, Full}
+use Rattle.refusal.specs.Number.{number_of}
+use Rattle.refusal.specs.declared.Reason.{Reason}
+use Rattle.refusal.specs.declared.Reason.TheVariants.{AnswersFull}
 use Rattle.walk_progress.specs.Progress.{Counts, no_counts, counts_with, counts_more, outcome_at, room_with, probes_so, ended, onward}
 use Rattle.walk_progress.proofs.Progress.{counts_same, outcome_same, onward_silent, over_placed, room_start}
-use Rattle.walk_rounds.specs.declared.End.{End}
+use Rattle.std.specs.Prelude.{Result, Ok, Err}
+use Rattle.walk_rounds.specs.Ends.{number_at, state_at}
+use Rattle.walk_write.specs.declared.State.{State}
+use Rattle.walk_write.specs.declared.Stopped.{Stopped}
 use Rattle.walk_state.specs.State.{runs_at}
 use Rattle.walk_tally.specs.Tally.{left_in, halved_in, undoubled}
 use Rattle.walk_whole.specs.Whole.{asked_runs, counts_from, ComesTo}
 use Rattle.walk_whole.proofs.Plain.{plain_asked, plain_weighs}
 use Rattle.walk_write.specs.Writes.{counts_of, ends_with}
-use Rattle.walk_write.specs.declared.State.{State}
 
 -- ---- the mask of the other runs
 
@@ -72,7 +75,7 @@ module _ (numbers ends : List ℕ) (t m : ℕ) (e : alone_checks numbers ends t 
       let k = (alone_passed numbers ends t e).met in
       omega arith
 
-  pub walked_so : (allowance tally : ℕ) (B A' B' : List ℕ) (r : End) → (left_in tally ≡ allowance) × (halved_in tally ≡ 0)
+  pub walked_so : (allowance tally : ℕ) (B A' B' : List ℕ) (r : Result State Stopped) → (left_in tally ≡ allowance) × (halved_in tally ≡ 0)
       → ComesTo numbers ends [] m t 1 0 tally [] B A' B' r → Walked (walk_without_answers t (other_runs (runs numbers ends)) allowance (length B)) allowance B B' r
   unfolding walk_without_answers cut_walk whole_certificate counts_from ends_with ended counts_of room_with probes_so counts_more no_counts
   walked_so allowance tally B A' B' r l h =
@@ -86,7 +89,7 @@ module _ (numbers ends : List ℕ) (t m : ℕ) (e : alone_checks numbers ends t 
       ∙ ap (λ x. ended (cut x W).refused (counts_more c 0 (cut x W).events) [] (placed B 0 (encode (parts_of (cut x W).events))))
       (sym (room_start allowance (length (answers_of (parts_of W))) B)) in
       let d = sym so ∙ ((λ i. onward allowance (sym first i) [] B (whole_walk t (sym others_asked i))) ∙ h.as_asked allowance (omega (arith, l.0, l.1))) in
-      let o = outcome_same w.refused r.number _ (counts_of allowance r.at) (ap (λ (x : Answered). x.outcome) d) in
+      let o = outcome_same w.refused (number_at r) _ (counts_of allowance (state_at r)) (ap (λ (x : Answered). x.outcome) d) in
       let g = o.1 in
       record {
         left = omega (arith, h.left_then, l.0, l.1);
@@ -119,13 +122,11 @@ module _ (run certificate : List ℕ) (allowance : ℕ) (w : State) (A A' : List
   found = in_gaps_of run certificate w.bytes
 
   -- the bytes of the certificate from its front on
-  pub kept_front : (r : Kept) → Keeps (in_gaps (parts_held (take (w.bytes - 0) certificate)) run) A A' r → Keeps found A A' r
+  pub kept_front : (r : Result ℕ Reason) → Keeps (in_gaps (parts_held (take w.bytes certificate)) run) A A' r → Keeps found A A' r
   unfolding in_gaps_of
-  kept_front r k =
-      let e : w.bytes - 0 ≡ w.bytes = omega arith in
-      subst (λ n. Keeps (in_gaps (parts_held (take n certificate)) run) A A' r) e k
+  kept_front r k = k
 
-  pub found_all : (n : ℕ) → Keeps found A A' (All n) → o ≡ outcome_at 0 (counts_with allowance n w.parts w.bytes w.tally)
+  pub found_all : (n : ℕ) → Keeps found A A' (Ok n) → o ≡ outcome_at 0 (counts_with allowance n w.parts w.bytes w.tally)
       → FoundAfter run certificate allowance w A A' o
   unfolding full_number
   found_all n k e =
@@ -133,14 +134,16 @@ module _ (run certificate : List ℕ) (allowance : ℕ) (w : State) (A A' : List
       let c : n ≡ length (take (length A) found) = k.0 ∙ sym (ap length t) in
       record {
         outcome_agrees = e ∙ rw (le-ltb (length A) (length found) k.1, full_number) (ap (λ x. outcome_at 0 (counts_with allowance x w.parts w.bytes w.tally)) c);
-        answers_are = keeps_row found A A' (All n) k;
+        answers_are = keeps_row found A A' (Ok n) k;
       }
 
-  pub found_full : Keeps found A A' Full → o ≡ outcome_at 5 (counts_with allowance (length A') w.parts w.bytes w.tally) → FoundAfter run certificate allowance w A A' o
+  pub found_full : (reason : Reason) → Keeps found A A' (Err reason)
+      → o ≡ outcome_at (number_of reason) (counts_with allowance (length A') w.parts w.bytes w.tally) → FoundAfter run certificate allowance w A A' o
   unfolding full_number
-  found_full k e =
+  found_full reason k e =
       record {
         outcome_agrees = e
-            ∙ rw (lt-ltb (length A) (length found) k.0, full_number) (ap (λ x. outcome_at 5 (counts_with allowance (length x) w.parts w.bytes w.tally)) k.1);
-        answers_are = keeps_row found A A' Full k;
+            ∙ (ap (λ r. outcome_at (number_of r) (counts_with allowance (length A') w.parts w.bytes w.tally)) k.0
+            ∙ rw (lt-ltb (length A) (length found) k.1, full_number) (ap (λ x. outcome_at 5 (counts_with allowance (length x) w.parts w.bytes w.tally)) k.2));
+        answers_are = keeps_row found A A' (Err reason) k;
       }

@@ -26,7 +26,12 @@ use Rattle.query_difference.specs.Gaps.{in_gaps}
 use Rattle.query_difference.proofs.Difference.{gaps_without}
 use Rattle.walk_progress.specs.Progress.{Counts, counts_with, outcome_at}
 use Rattle.walk_progress.proofs.Progress.{outcome_start}
-use Rattle.walk_rounds.specs.declared.End.{End}
+use Rattle.std.specs.Prelude.{Result, Ok, Err}
+use Rattle.refusal.proofs.Number.{number_above}
+use Rattle.refusal.specs.Number.{number_of}
+use Rattle.walk_rounds.specs.Ends.{number_at, state_at}
+use Rattle.walk_write.specs.declared.State.{State}
+use Rattle.walk_write.specs.declared.Stopped.{Stopped}
 
 -- a walk that a refusal ended leaves no answers, and one that reached its end leaves those that fit
 stopped_alone : (n : ℕ) (e : Ended) (found A B : List ℕ) → e.refused ≡ suc n
@@ -41,16 +46,16 @@ ended_alone : (e : Ended) (found A B : List ℕ) → e.refused ≡ 0
 unfolding answers_after ended_after full_number
 ended_alone e found A B h = rw (h, answers_after, ended_after) refl
 
-module _ (numbers ends : List ℕ) (t allowance : ℕ) (A B B' : List ℕ) (r : End) (passes : alone_checks numbers ends t ≡ passed)
+module _ (numbers ends : List ℕ) (t allowance : ℕ) (A B B' : List ℕ) (r : Result State Stopped) (passes : alone_checks numbers ends t ≡ passed)
     (walked : Walked (walk_without_answers t (other_runs (runs numbers ends)) allowance (length B)) allowance B B' r) where
   abbrev e : Ended
   e = walk_without_answers t (other_runs (runs numbers ends)) allowance (length B)
 
-  bytes_are : r.at.bytes ≡ length (encode (parts_of e.events))
+  bytes_are : (state_at r).bytes ≡ length (encode (parts_of e.events))
   unfolding Rattle.walk_progress.specs.Progress.counts_more Rattle.walk_progress.specs.Progress.no_counts
   bytes_are = ap (λ (c : Counts). c.bytes) (walked.counts 0) ∙ omega arith
 
-  pub bytes_fit : r.at.bytes ≤ length B'
+  pub bytes_fit : (state_at r).bytes ≤ length B'
   unfolding over
   bytes_fit =
       let b = bytes_are in
@@ -58,7 +63,7 @@ module _ (numbers ends : List ℕ) (t allowance : ℕ) (A B B' : List ℕ) (r : 
       omega arith
 
   -- the outcome with so many answers
-  outcome_now : (n a : ℕ) → outcome_at n (counts_with allowance a r.at.parts r.at.bytes r.at.tally) ≡ outcome_with a (record { events = e.events; refused = n })
+  outcome_now : (n a : ℕ) → outcome_at n (counts_with allowance a (state_at r).parts (state_at r).bytes (state_at r).tally) ≡ outcome_with a (record { events = e.events; refused = n })
   outcome_now n a = ap (outcome_at n) (walked.counts a) ∙ sym (outcome_start a e.events n)
 
   passed_first : query_alone numbers ends t allowance A B
@@ -66,22 +71,24 @@ module _ (numbers ends : List ℕ) (t allowance : ℕ) (A B B' : List ℕ) (r : 
   unfolding query_alone checked_first
   passed_first = rw passes refl
 
-  pub alone_stopped : r.number ≢ 0 → (o : Outcome) → o ≡ outcome_at r.number (counts_with allowance 0 r.at.parts r.at.bytes r.at.tally)
-      → Returns (query_alone numbers ends t allowance A B) o A B'
-  alone_stopped z o h = go e.refused refl
-    where
-      go : (n : ℕ) → e.refused ≡ n → Returns (query_alone numbers ends t allowance A B) o A B'
-      go zero i = absurd (z (walked.number ∙ i))
-      go (suc n) i =
-          let q = passed_first ∙ stopped_alone n e (alone_in t (runs numbers ends)) A B i in
-          record {
-            outcome_agrees = h ∙ (outcome_now r.number 0 ∙ (ap (λ x. outcome_with 0 (record { events = e.events; refused = x })) (walked.number ∙ i) ∙ sym (ap (λ (x : Answered). x.outcome) q)));
-            answers_are = sym (ap (λ (x : Answered). x.answers) q);
-            certificate_is = walked.certificate_is ∙ sym (ap (λ (x : Answered). x.certificate) q);
-          }
+  pub alone_stopped : (s : Stopped) → r ≡ Err s → (o : Outcome)
+      → o ≡ outcome_at (number_of s.reason) (counts_with allowance 0 s.at.parts s.at.bytes s.at.tally) → Returns (query_alone numbers ends t allowance A B) o A B'
+  alone_stopped s i o h =
+      let n = number_above s.reason in
+      let k = ap number_at i in
+      let m : e.refused ≡ suc n.0 = sym walked.number ∙ (k ∙ n.1) in
+      let q = passed_first ∙ stopped_alone n.0 e (alone_in t (runs numbers ends)) A B m in
+      let c : (a : ℕ) → outcome_at (number_of s.reason) (counts_with allowance a s.at.parts s.at.bytes s.at.tally) ≡ outcome_with a (record { events = e.events; refused = number_of s.reason }) =
+      λ a.
+      ap (λ (w : State). outcome_at (number_of s.reason) (counts_with allowance a w.parts w.bytes w.tally)) (sym (ap state_at i)) ∙ outcome_now (number_of s.reason) a in
+      record {
+        outcome_agrees = h ∙ (c 0 ∙ (ap (λ x. outcome_with 0 (record { events = e.events; refused = x })) n.1 ∙ sym (ap (λ (x : Answered). x.outcome) q)));
+        answers_are = sym (ap (λ (x : Answered). x.answers) q);
+        certificate_is = walked.certificate_is ∙ sym (ap (λ (x : Answered). x.certificate) q);
+      }
 
   -- what lies in the gaps of the bytes written is what the new test found alone
-  found_is : Fits past_bin numbers → r.number ≡ 0 → in_gaps_of (new_bins (runs numbers ends)) B' r.at.bytes ≡ alone_in t (runs numbers ends)
+  found_is : Fits past_bin numbers → (number_at r) ≡ 0 → in_gaps_of (new_bins (runs numbers ends)) B' (state_at r).bytes ≡ alone_in t (runs numbers ends)
   unfolding in_gaps_of over alone_in walk_without_answers cut_walk
   found_is f z =
       let g = alone_fit numbers ends t f passes in
@@ -89,13 +96,13 @@ module _ (numbers ends : List ℕ) (t allowance : ℕ) (A B B' : List ℕ) (r : 
       let c = whole_true g in
       let k : Narrow (other_runs (runs numbers ends)) =
       subst Narrow (others_chosen numbers ends) (chosen_narrow numbers ends (other_mask (length ends)) (alone_passed numbers ends t passes).few_runs) in
-      let w : take r.at.bytes B' ≡ encode (parts_of e.events) =
+      let w : take (state_at r).bytes B' ≡ encode (parts_of e.events) =
       (λ i. take (bytes_are i) (walked.certificate_is i)) ∙ take-append_seam (encode (parts_of e.events)) _ in
       let p : parts_of e.events ≡ whole = all_parts_law (other_runs (runs numbers ends)) t _ (sym walked.number ∙ z) in
-      let h : parts_held (take r.at.bytes B') ≡ whole = ap parts_held (w ∙ ap encode p) ∙ held_encode whole k c.covering c.each in
+      let h : parts_held (take (state_at r).bytes B') ≡ whole = ap parts_held (w ∙ ap encode p) ∙ held_encode whole k c.covering c.each in
       ap (λ ps. in_gaps ps (new_bins (runs numbers ends))) h ∙ gaps_without _ whole (new_bins (runs numbers ends)) c.covering (new_rising numbers ends t f passes)
 
-  pub alone_ended : Fits past_bin numbers → r.number ≡ 0 → (A' : List ℕ) (o : Outcome) → FoundAfter (new_bins (runs numbers ends)) B' allowance r.at A A' o
+  pub alone_ended : Fits past_bin numbers → (number_at r) ≡ 0 → (A' : List ℕ) (o : Outcome) → FoundAfter (new_bins (runs numbers ends)) B' allowance (state_at r) A A' o
       → Returns (query_alone numbers ends t allowance A B) o A' B'
   unfolding answered_with
   alone_ended f z A' o h =
@@ -104,7 +111,7 @@ module _ (numbers ends : List ℕ) (t allowance : ℕ) (A B B' : List ℕ) (r : 
       let q = passed_first ∙ ended_alone e found A B (sym walked.number ∙ z) in
       record {
         outcome_agrees = h.outcome_agrees
-            ∙ (ap (λ x. outcome_at (full_number (length A) x) (counts_with allowance (length (take (length A) x)) r.at.parts r.at.bytes r.at.tally)) s
+            ∙ (ap (λ x. outcome_at (full_number (length A) x) (counts_with allowance (length (take (length A) x)) (state_at r).parts (state_at r).bytes (state_at r).tally)) s
             ∙ (outcome_now (full_number (length A) found) (length (take (length A) found)) ∙ sym (ap (λ (x : Answered). x.outcome) q)));
         answers_are = h.answers_are ∙ (ap (λ x. over (take (length A) x) A) s ∙ sym (ap (λ (x : Answered). x.answers) q));
         certificate_is = walked.certificate_is ∙ sym (ap (λ (x : Answered). x.certificate) q);

@@ -1,5 +1,5 @@
 -- What the walk over the other runs comes to, and the answers after it. Definitions only.
-use Rattle.std.specs.Prelude.{ℕ, ◌≤◌, ◌<◌, List, ◌≡◌, length, take}
+use Rattle.std.specs.Prelude.{ℕ, ◌≤◌, ◌<◌, List, ◌≡◌, length, take, Result}
 use Rattle.field_read.specs.Held.{parts_held}
 use Rattle.model.specs.Alone.{full_number}
 use Rattle.model.specs.Certificate.{encode}
@@ -8,10 +8,11 @@ use Rattle.model.specs.Refusals.{Ended, Outcome, over}
 use Rattle.model.specs.Runs.{runs}
 use Rattle.query_difference.specs.Gaps.{in_gaps}
 use Rattle.walk_progress.specs.Progress.{no_counts, counts_with, counts_more, outcome_at}
-use Rattle.walk_rounds.specs.declared.End.{End}
+use Rattle.walk_rounds.specs.Ends.{number_at, state_at}
 use Rattle.walk_state.specs.Moves.{PlacedAt}
 use Rattle.walk_tally.specs.Tally.{undoubled}
 use Rattle.walk_write.specs.declared.State.{State}
+use Rattle.walk_write.specs.declared.Stopped.{Stopped}
 
 -- there is a run, and the row has the places of the runs' first bins
 pub record RunsPlaced (numbers ends firsts : List ℕ) : Type 0 where
@@ -19,10 +20,10 @@ pub record RunsPlaced (numbers ends firsts : List ℕ) : Type 0 where
   pub placed : PlacedAt numbers ends (runs numbers ends) firsts
 
 -- A walk from the call's start ended so: its number, its counts with however many answers are written after it, and the certificate.
-pub record Walked (e : Ended) (allowance : ℕ) (certificate certificate' : List ℕ) (r : End) : Type 0 where
-  pub left : undoubled r.at.tally ≤ allowance
-  pub number : r.number ≡ e.refused
-  pub counts : (answers : ℕ) → counts_with allowance answers r.at.parts r.at.bytes r.at.tally ≡ counts_more no_counts answers e.events
+pub record Walked (e : Ended) (allowance : ℕ) (certificate certificate' : List ℕ) (r : Result State Stopped) : Type 0 where
+  pub left : undoubled (state_at r).tally ≤ allowance
+  pub number : number_at r ≡ e.refused
+  pub counts : (answers : ℕ) → counts_with allowance answers (state_at r).parts (state_at r).bytes (state_at r).tally ≡ counts_more no_counts answers e.events
   pub certificate_is : certificate' ≡ over (encode (parts_of e.events)) certificate
 
 -- what of the run lies in the gaps of the certificate's bytes

@@ -10,11 +10,8 @@ ghost use Rattle.query.specs.Outcomes.{outcome_is, Returns};
 ghost use Rattle.query_alone.specs.Others.{RunsPlaced, Walked, FoundAfter};
 ghost use Rattle.walk_tally.specs.Tally.{undoubled};
 
-use first_checks::Checked;
-use query::Outcome;
-use row_fill::Kept;
-use walk_rounds::End;
-use walk_write::State;
+use query::{Accepted, Refused};
+use walk_write::{State, Stopped};
 
 // The walk over all runs but run 0. It is told not to write answers: it has no place for them, and a count of them above that.
 fn walk_others(
@@ -24,19 +21,18 @@ fn walk_others(
     allowance: u32,
     firsts: &[u32],
     certificate: &mut [u8],
-) -> End
+) -> Result<State, Stopped>
     requires { (alone_checks numbers.now ends.now threshold ≡ passed) × RunsPlaced numbers.now ends.now firsts.now }
     ensures { Walked (walk_without_answers threshold (other_runs (runs numbers.now ends.now)) allowance (length certificate.old)) allowance certificate.old certificate.new result }
 {
-    let mut unused = [0u32; 1];
     let others = mask::without_run(mask::all_runs(ends.len()), 0);
     walk_whole::question_walk(
         numbers,
         ends,
-        &ends[0..0],
+        &[],
         others,
-        arith::usize_of_u32(threshold),
-        &mut unused[0..0],
+        threshold as usize,
+        &mut [],
         certificate,
         1,
         0,
@@ -54,16 +50,14 @@ fn found_after(
     answers: &mut [u32],
     w: State,
     allowance: u32,
-) -> Outcome
+) -> Result<Accepted, Refused>
     requires { RunsPlaced numbers.now ends.now firsts.now × (undoubled w.tally ≤ allowance) × (w.bytes ≤ length certificate.now) }
     ensures { FoundAfter (new_bins (runs numbers.now ends.now)) certificate.now allowance w answers.old answers.new (outcome_is result) }
 {
-    let first = arith::usize_of_u32(firsts[0]);
-    let last = arith::usize_of_u32(ends[0]);
-    let bytes = w.bytes;
-    match query_difference::in_gaps(&numbers[first..last], &certificate[0..bytes], answers) {
-        Kept::All(count) => query::outcome_of(0, count, w, allowance),
-        Kept::Full => query::outcome_of(5, answers.len(), w, allowance),
+    let new_bins = &numbers[firsts[0] as usize..ends[0] as usize];
+    match query_difference::in_gaps(new_bins, &certificate[..w.bytes], answers) {
+        Ok(count) => Ok(query::accepted_at(count, w, allowance)),
+        Err(reason) => Err(query::refused_at(reason, answers.len(), w, allowance)),
     }
 }
 
@@ -76,24 +70,15 @@ fn answer_with(
     firsts: &mut [u32],
     answers: &mut [u32],
     certificate: &mut [u8],
-) -> Outcome
+) -> Result<Accepted, Refused>
     requires { (alone_checks numbers.now ends.now threshold ≡ passed) × (length firsts.old ≡ length ends.now) }
     ensures { Returns (query_alone numbers.now ends.now threshold allowance answers.old certificate.old) (outcome_is result) answers.new certificate.new }
 {
     walk_begin::first_places(numbers, ends, firsts);
-    let end = walk_others(numbers, ends, threshold, allowance, firsts, certificate);
-    if end.number != 0 {
-        return query::outcome_of(end.number, 0, end.at, allowance);
+    match walk_others(numbers, ends, threshold, allowance, firsts, certificate) {
+        Ok(w) => found_after(numbers, ends, firsts, certificate, answers, w, allowance),
+        Err(stopped) => Err(query::refused_at(stopped.reason, 0, stopped.at, allowance)),
     }
-    found_after(
-        numbers,
-        ends,
-        firsts,
-        certificate,
-        answers,
-        end.at,
-        allowance,
-    )
 }
 
 // The same with a row of its own.
@@ -104,7 +89,7 @@ fn answer(
     allowance: u32,
     answers: &mut [u32],
     certificate: &mut [u8],
-) -> Outcome
+) -> Result<Accepted, Refused>
     requires { alone_checks numbers.now ends.now threshold ≡ passed }
     ensures { Returns (query_alone numbers.now ends.now threshold allowance answers.old certificate.old) (outcome_is result) answers.new certificate.new }
 {
@@ -130,13 +115,11 @@ pub fn query_alone(
     allowance: u32,
     answers: &mut [u32],
     certificate: &mut [u8],
-) -> Outcome
+) -> Result<Accepted, Refused>
     ensures returns { Returns (query_alone numbers.now ends.now threshold allowance answers.old certificate.old) (outcome_is result) answers.new certificate.new }
     ensures demand2 { AloneDemand2 numbers.now ends.now threshold (length answers.old) (outcome_is result) answers.new certificate.new }
     ensures demand3 { AloneDemand3 numbers.now ends.now threshold allowance certificate.old (outcome_is result) certificate.new }
 {
-    match first_checks::alone_checks(numbers, ends, threshold) {
-        Checked::Refused { number, place } => query::refused(number, place),
-        Checked::Passed => answer(numbers, ends, threshold, allowance, answers, certificate),
-    }
+    first_checks::alone_checks(numbers, ends, threshold)?;
+    answer(numbers, ends, threshold, allowance, answers, certificate)
 }

@@ -1,44 +1,35 @@
 -- What the first checks of a call give by the tests made so far. Assumes nothing.
-use Prim.Native.Nat.{ℕ, suc, ◌*◌, ◌/◌, ◌≤◌, ◌<◌}
-use borrow.Author.Tests.{lt-ltb, le-ltb, eq-eqb, ne_eqb}
+use Prim.Native.Nat.{ℕ, suc, ◌≤◌, ◌<◌}
 use lib.Count.{ones}
 use lib.ListN.{length, get_or, drop, drop_of_length-le}
 use lib.Seq.{drop-cons}
-use mathlib.Core.List.{List, []}
-use mathlib.Core.Logic.{◌≢◌}
+use mathlib.Core.List.{List}
 use mathlib.Core.Path.{◌≡◌, refl, sym, ap, ◌∙◌}
 use native.Mathlib.Omega.{arith}
+use Rattle.model.proofs.FirstChecks.{then_first, then_second, count_passed}
+use Rattle.model.proofs.ManyChecks.{rows_passed}
 use Rattle.model.specs.Many.{ManyCheck, all_passed, refusal_in, in_question, rows_check, question_checks}
-use Rattle.model.specs.Refusals.{Check, passed, refusal, ◌then◌, refuse_if, mask_check, threshold_check}
-
--- ---- 14
-
-module _ (masks thresholds results : List ℕ) where
-  pub rows_differ : length masks ≢ length thresholds → refusal 14 (length masks) ≡ rows_check masks thresholds results
-  unfolding rows_check refuse_if
-  rows_differ h = rw (ne_eqb (length masks) (length thresholds) h)
-
-  pub rows_short : length masks ≡ length thresholds → length results / 2 < length masks → refusal 14 (length masks) ≡ rows_check masks thresholds results
-  unfolding rows_check refuse_if
-  rows_short e h =
-      let l : length results < 2 * length masks = omega arith in
-      rw (eq-eqb (length masks) (length thresholds) e, lt-ltb (length results) (2 * length masks) l)
-
-  pub rows_pass : length masks ≡ length thresholds → length masks ≤ length results / 2 → passed ≡ rows_check masks thresholds results
-  unfolding rows_check refuse_if
-  rows_pass e h =
-      let l : 2 * length masks ≤ length results = omega arith in
-      rw (eq-eqb (length masks) (length thresholds) e, le-ltb (length results) (2 * length masks) l)
+use Rattle.model.specs.Refusals.{Check, passed, refusal, ◌then◌, count_check, list_checks, mask_check, threshold_check}
+use Rattle.model.specs.Runs.{most_runs}
 
 -- ---- a question's check, and those after it
 
-pub refused_in : (q : ℕ) (c : Check) (d : ManyCheck) {n p : ℕ} → c ≡ refusal n p → refusal_in q n p ≡ in_question q c d
+pub passed_in : (q : ℕ) (d : ManyCheck) → in_question q passed d ≡ d
 unfolding in_question
-refused_in q c d e = rw e
+passed_in q d = refl
 
-pub passed_in : (q : ℕ) (c : Check) (d : ManyCheck) → c ≡ passed → d ≡ in_question q c d
+pub refusal_first : (q n p : ℕ) (d : ManyCheck) → in_question q (refusal n p) d ≡ refusal_in q n p
 unfolding in_question
-passed_in q c d e = rw e
+refusal_first q n p d = refl
+
+pub ruleset first_in = (passed_in, refusal_first)
+
+-- the checks of the call have passed
+pub call_passed : (numbers ends masks thresholds results : List ℕ)
+    → passed ≡ (count_check ends then list_checks numbers ends then rows_check masks thresholds results)
+    → (length ends ≤ most_runs) × (length masks ≡ length thresholds)
+call_passed numbers ends masks thresholds results e =
+    ((count_passed _ (then_first _ _ (sym e))).1, (rows_passed masks thresholds results (then_second _ _ (then_second _ _ (sym e)))).0)
 
 -- ---- the questions from index q on
 
@@ -61,11 +52,11 @@ module _ (k : ℕ) (masks thresholds : List ℕ) (same : length masks ≡ length
 
   pub question_refused : q < length masks → {n p : ℕ} → choice k masks thresholds q ≡ refusal n p
       → refusal_in q n p ≡ question_checks k q (drop q masks) (drop q thresholds)
-  question_refused l e = refused_in q _ _ e ∙ sym (questions l)
+  question_refused l e = sym (refusal_first q _ _ _) ∙ (ap (λ c. in_question q c (question_checks k (suc q) (drop (suc q) masks) (drop (suc q) thresholds))) (sym e) ∙ sym (questions l))
 
   pub question_passed : q < length masks → choice k masks thresholds q ≡ passed
       → question_checks k q (drop q masks) (drop q thresholds) ≡ question_checks k (suc q) (drop (suc q) masks) (drop (suc q) thresholds)
-  question_passed l e = questions l ∙ sym (passed_in q _ _ e)
+  question_passed l e = questions l ∙ (ap (λ c. in_question q c (question_checks k (suc q) (drop (suc q) masks) (drop (suc q) thresholds))) e ∙ passed_in q _)
 
   pub questions_passed : length masks ≤ q → all_passed ≡ question_checks k q (drop q masks) (drop q thresholds)
   unfolding question_checks

@@ -18,11 +18,11 @@ use Rattle.insertion_rank.proofs.Passed.{passed_nil, drop_after}
 use Rattle.insertion_rank.specs.Passed.{begins_with, passed_over}
 use Rattle.row_fill.proofs.Keeping.{Keeping, keeping_start, keeping_end, keeping_full, keeping_put, keeping_on, keeping_cut}
 use Rattle.row_fill.specs.Keeps.{Keeps}
-use Rattle.row_fill.specs.declared.Kept.TheVariants as Kept
-use Rattle.row_fill.specs.declared.Kept.TheVariants.{All}
+use Rattle.std.specs.Prelude.{Ok, Err}
+use Rattle.refusal.specs.declared.Reason.{Reason}
+use Rattle.refusal.specs.declared.Reason.TheVariants.{AnswersFull}
 use Rattle.query_difference.specs.Gaps.{in_gaps, Copies}
 use Rattle.query_difference.specs.declared.Copied.{Copied}
-use Rattle.query_difference.specs.declared.Copied.TheVariants.{On, Full}
 
 -- ---- the bins up to a gap's last
 
@@ -38,17 +38,18 @@ pub copying_start : (run : List ℕ) (last place : ℕ) (row : List ℕ) (count 
 copying_start run last place row count h = record { onward = refl; kept = keeping_start row count _ h }
 
 module _ {run : List ℕ} {last place : ℕ} {row now : List ℕ} {count at n : ℕ} (c : Copying run last place row now count at n) where
-  pub copying_end : length run ≤ at → Copies run (drop place run) last (take count row) row now (On at n)
+  pub copying_end : length run ≤ at → Copies run (drop place run) last (take count row) row now (Ok (record { place = length run; count = n }))
   copying_end h =
       let d = drop_of_length-le run h in
+      let l : length run ≤ length run = omega arith in
       let k : Keeping _ row now n [] = rw (d, rank_nil (suc last)) at c.kept in
-      (rw d (sym (from_nil (suc last)) ∙ (rw d at c.onward)), keeping_end k)
+      (drop_of_length-le run l ∙ (sym (from_nil (suc last)) ∙ (rw d at c.onward)), keeping_end k)
 
   module _ (h : at < length run) where
     front : drop at run ≡ get_or run at 0 ∷ drop (suc at) run
     front = drop-cons run at 0 h
 
-    pub copying_stop : last < get_or run at 0 → Copies run (drop place run) last (take count row) row now (On at n)
+    pub copying_stop : last < get_or run at 0 → Copies run (drop place run) last (take count row) row now (Ok (record { place = at; count = n }))
     copying_stop l =
         let k : Keeping _ row now n [] = rw (front, rank_stop (suc last) (get_or run at 0) (drop (suc at) run) l) at c.kept in
         let e : from (suc last) (drop at run) ≡ drop at run = rw front (from_stop (suc last) (get_or run at 0) (drop (suc at) run) l) in
@@ -59,7 +60,7 @@ module _ {run : List ℕ} {last place : ℕ} {row now : List ℕ} {count at n : 
         let i : get_or run at 0 < suc last = omega arith in
         rw (front, rank_pass (suc last) (get_or run at 0) (drop (suc at) run) i) at c.kept
 
-    pub copying_full : get_or run at 0 ≤ last → n ≡ length now → Copies run (drop place run) last (take count row) row now Full
+    pub copying_full : get_or run at 0 ≤ last → n ≡ length now → Copies run (drop place run) last (take count row) row now (Err AnswersFull)
     copying_full l e = keeping_full (due l) (e ∙ c.kept.same)
 
     pub copying_on : get_or run at 0 ≤ last → n < length now → Copying run last place row (set now n (get_or run at 0)) count (at + 1) (n + 1)
@@ -105,10 +106,10 @@ unfolding in_gaps part_of
 answer_due ps qs s e g = rw (e, g)
 
 module _ {run certificate row now : List ℕ} {place at count : ℕ} (k : Passing run certificate row now place at count) where
-  pub passing_end : parts_held (drop at certificate) ≡ [] → Keeps (in_gaps (parts_held certificate) run) row now (All count)
+  pub passing_end : parts_held (drop at certificate) ≡ [] → Keeps (in_gaps (parts_held certificate) run) row now (Ok count)
   passing_end e = keeping_end (rw (none_due (parts_held (drop at certificate)) (drop place run) e) at k.kept)
 
-  pub passing_done : length run ≤ place → Keeps (in_gaps (parts_held certificate) run) row now (All count)
+  pub passing_done : length run ≤ place → Keeps (in_gaps (parts_held certificate) run) row now (Ok count)
   passing_done h =
       let k₀ : Keeping _ row now count (in_gaps (parts_held (drop at certificate)) []) = rw (drop_of_length-le run h) at k.kept in
       keeping_end (rw (run_passed (parts_held (drop at certificate))) at k₀)
@@ -121,17 +122,13 @@ module _ {run certificate row now : List ℕ} {place at count : ℕ} (k : Passin
       kept_gap : Keeping (in_gaps (parts_held certificate) run) row now count (up_to last (drop place run) ++ later_due)
       kept_gap = rw (gap_due (parts_held (drop at certificate)) (parts_held (drop next certificate)) (drop place run) h g) at k.kept
 
-      pub passing_gap : {o : Copied} {p n : ℕ} {row' : List ℕ} → o ≡ On p n → Copies run (drop place run) last (take count now) now row' o
-          → Passing run certificate row row' p next n
-      passing_gap {o} {p} {n} {row'} e c =
-          let d : Copies run (drop place run) last (take count now) now row' (On p n) = rw e at c in
-          record { kept = rw d.0 (keeping_on (up_to last (drop place run)) later_due row' kept_gap d.1) }
+      pub passing_gap : {o : Copied} {row' : List ℕ} → Copies run (drop place run) last (take count now) now row' (Ok o)
+          → Passing run certificate row row' o.place next o.count
+      passing_gap {o} {row'} c = record { kept = rw c.0 (keeping_on (up_to last (drop place run)) later_due row' kept_gap c.1) }
 
-      pub passing_full : {o : Copied} {row' : List ℕ} → o ≡ Full → Copies run (drop place run) last (take count now) now row' o
-          → Keeps (in_gaps (parts_held certificate) run) row row' Kept.Full
-      passing_full {o} {row'} e c =
-          let d : Copies run (drop place run) last (take count now) now row' Full = rw e at c in
-          keeping_cut (up_to last (drop place run)) later_due row' kept_gap d
+      pub passing_full : {reason : Reason} {row' : List ℕ} → Copies run (drop place run) last (take count now) now row' (Err reason)
+          → Keeps (in_gaps (parts_held certificate) run) row row' (Err reason)
+      passing_full {reason} {row'} c = keeping_cut (up_to last (drop place run)) later_due row' kept_gap c
 
     pub passing_answer : {value named p : ℕ} → part ≡ Answer value named → p ≡ place + one (begins_with value (drop place run))
         → Passing run certificate row now p next count

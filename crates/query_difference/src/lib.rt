@@ -7,73 +7,70 @@ ghost use Rattle.field_read.specs.Held.{parts_held};
 ghost use Rattle.row_fill.specs.Keeps.{Keeps};
 ghost use Rattle.query_difference.specs.Gaps.{in_gaps, Copies};
 
-use field_read::{Field, Part};
-use row_fill::Kept;
+use field_read::Part;
+use refusal::Reason;
 
-// The place in the run and the count of what is written after a copy; or one more was due in a full buffer.
-#[derive(Drop)]
-enum Copied {
-    On { place: usize, count: usize },
-    Full,
+// The place in the run and the count of what is written after a copy.
+#[derive(Clone, Copy)]
+struct Copied {
+    place: usize,
+    count: usize,
 }
 
 // Copies the run's bins from `place` on that are not above `last` to the answers from `count` on.
-fn copy_to(run: &[u32], place: usize, last: u32, answers: &mut [u32], count: usize) -> Copied
+fn copy_to(
+    run: &[u32],
+    place: usize,
+    last: u32,
+    answers: &mut [u32],
+    count: usize,
+) -> Result<Copied, Reason>
     requires { count ≤ length answers.old }
     ensures { Copies run.now (drop place run.now) last (take count answers.old) answers.old answers.new result }
 {
-    let mut at = place;
     let mut n = count;
-    while at < run.len() {
+    for at in place..run.len() {
         let x = run[at];
         if last < x {
-            return Copied::On {
+            return Ok(Copied {
                 place: at,
                 count: n,
-            };
+            });
         }
         if n == answers.len() {
-            return Copied::Full;
+            return Err(Reason::AnswersFull);
         }
         answers[n] = x;
-        at += 1;
         n += 1;
     }
-    Copied::On {
-        place: at,
+    Ok(Copied {
+        place: run.len(),
         count: n,
-    }
+    })
 }
 
 // Writes the bins in the gaps to the answers, in the order of the run. What follows of the certificate after the run's last bin is not read.
-pub fn in_gaps(run: &[u32], certificate: &[u8], answers: &mut [u32]) -> Kept
+pub fn in_gaps(run: &[u32], certificate: &[u8], answers: &mut [u32]) -> Result<usize, Reason>
     ensures { Keeps (in_gaps (parts_held certificate.now) run.now) answers.old answers.new result }
 {
-    let mut place: usize = 0;
-    let mut count: usize = 0;
-    let mut at: usize = 0;
+    let mut place = 0;
+    let mut count = 0;
+    let mut at = 0;
     while place < run.len() {
-        let Field::Read { part, next } = field_read::read_field(certificate, at) else {
-            return Kept::All(count);
+        let Ok(field) = field_read::read_field(certificate, at) else {
+            return Ok(count);
         };
-        match part {
-            Part::Gap {
-                first: _,
-                last,
-                mask: _,
-            } => {
-                let Copied::On { place: p, count: n } = copy_to(run, place, last, answers, count)
-                else {
-                    return Kept::Full;
-                };
-                place = p;
-                count = n;
+        match field.part {
+            Part::Gap { last, .. } => {
+                let copied = copy_to(run, place, last, answers, count)?;
+                place = copied.place;
+                count = copied.count;
             }
-            Part::Answer { value, mask: _ } => {
+            Part::Answer { value, .. } => {
                 place = insertion_rank::place_after(run, place, value);
             }
         }
-        at = next;
+        at = field.next;
     }
-    Kept::All(count)
+    Ok(count)
 }

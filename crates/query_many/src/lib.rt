@@ -6,62 +6,68 @@ ghost use Rattle.std.specs.Prelude.{◌≡◌, ◌≤◌, length};
 ghost use Rattle.model.specs.Many.{all_passed, many_checks, query_many};
 ghost use Rattle.model.specs.ManyDemands.{ManyDemand2, ManyDemand3};
 ghost use Rattle.query_progress.specs.Calls.{call_outcome};
-ghost use Rattle.query_each.specs.Questions.{counts_so, end_of};
+ghost use Rattle.query_each.specs.Questions.{counts_so, end_of, totals_of};
 ghost use Rattle.walk_tally.specs.Tally.{undoubled};
-ghost use Rattle.query_many.specs.Outcomes.{many_outcome_is, ReturnsMany};
+ghost use Rattle.query_many.specs.Outcomes.{many_outcome_is, FirstRefusedMany, ReturnsMany};
 
-use query_checks::ManyChecked;
-use query_each::{Finish, Totals};
+use query::Accepted;
+use query_checks::ManyRefusal;
+use query_each::{Cut, Totals};
+use refusal::Refusal;
 
-// What a call returns: the counts of all its questions, the probes by doubling and by halving among them, and where it is refused the number, the place and the
-// question's index, 0 if it belongs to none.
-#[derive(Drop)]
-pub enum ManyOutcome {
-    Accepted {
-        answers: usize,
-        parts: usize,
-        bytes: usize,
-        doublings: u32,
-        halvings: u32,
-    },
-    Refused {
-        number: u8,
-        place: usize,
-        question: usize,
-        answers: usize,
-        parts: usize,
-        bytes: usize,
-        doublings: u32,
-        halvings: u32,
-    },
+// What a refused call returns: the refusal and its question's index, 0 if it belongs to none, with the counts of all questions and the probes by doubling and by
+// halving among them.
+#[derive(Clone, Copy, Debug, PartialEq, Eq)]
+pub struct RefusedMany {
+    pub refusal: Refusal,
+    pub question: usize,
+    pub answers: usize,
+    pub parts: usize,
+    pub bytes: usize,
+    pub doublings: u32,
+    pub halvings: u32,
+}
+
+// A refusal by the first checks: nothing is written and no probe made.
+impl From<ManyRefusal> for RefusedMany {
+    ghost from_gives = { FirstRefusedMany };
+
+    fn from(first: ManyRefusal) -> RefusedMany {
+        RefusedMany {
+            refusal: first.refusal,
+            question: first.question,
+            answers: 0,
+            parts: 0,
+            bytes: 0,
+            doublings: 0,
+            halvings: 0,
+        }
+    }
 }
 
 // What a call returns that ended so.
-fn outcome_of(end: Finish, allowance: u32) -> ManyOutcome
-    requires { undoubled end.at.tally ≤ allowance }
-    ensures { many_outcome_is result ≡ call_outcome (end_of end) (counts_so allowance end.at) }
+#[tactic(auto, unfolding(query_progress::specs::Calls::call_outcome, query_each::specs::Questions::counts_so))]
+fn outcome_of(end: Result<Totals, Cut>, allowance: u32) -> Result<Accepted, RefusedMany>
+    requires { undoubled (totals_of end).tally ≤ allowance }
+    ensures { many_outcome_is result ≡ call_outcome (end_of end) (counts_so allowance (totals_of end)) }
 {
-    let w = end.at;
-    let doublings = walk_tally::doublings(allowance, w.tally);
-    let halvings = walk_tally::halvings(w.tally);
-    if end.number == 0 {
-        return ManyOutcome::Accepted {
+    match end {
+        Ok(w) => Ok(Accepted {
             answers: w.answers,
             parts: w.parts,
             bytes: w.bytes,
-            doublings: doublings,
-            halvings: halvings,
-        };
-    }
-    ManyOutcome::Refused {
-        number: end.number,
-        place: end.place,
-        question: end.question,
-        answers: w.answers,
-        parts: w.parts,
-        bytes: w.bytes,
-        doublings: doublings,
-        halvings: halvings,
+            doublings: walk_tally::doublings(allowance, w.tally),
+            halvings: walk_tally::halvings(w.tally),
+        }),
+        Err(cut) => Err(RefusedMany {
+            refusal: cut.refusal,
+            question: cut.question,
+            answers: cut.at.answers,
+            parts: cut.at.parts,
+            bytes: cut.at.bytes,
+            doublings: walk_tally::doublings(allowance, cut.at.tally),
+            halvings: walk_tally::halvings(cut.at.tally),
+        }),
     }
 }
 
@@ -77,7 +83,7 @@ fn answer_with(
     answers: &mut [u32],
     certificate: &mut [u8],
     results: &mut [u64],
-) -> ManyOutcome
+) -> Result<Accepted, RefusedMany>
     requires { (many_checks numbers.now ends.now masks.now thresholds.now results.old ≡ all_passed) × (length firsts.old ≡ length ends.now) }
     ensures { ReturnsMany (query_many numbers.now ends.now masks.now thresholds.now allowance answers.old certificate.old results.old) (many_outcome_is result) answers.new certificate.new results.new }
 {
@@ -111,7 +117,7 @@ fn answer_all(
     answers: &mut [u32],
     certificate: &mut [u8],
     results: &mut [u64],
-) -> ManyOutcome
+) -> Result<Accepted, RefusedMany>
     requires { many_checks numbers.now ends.now masks.now thresholds.now results.old ≡ all_passed }
     ensures { ReturnsMany (query_many numbers.now ends.now masks.now thresholds.now allowance answers.old certificate.old results.old) (many_outcome_is result) answers.new certificate.new results.new }
 {
@@ -142,35 +148,20 @@ pub fn query_many(
     answers: &mut [u32],
     certificate: &mut [u8],
     results: &mut [u64],
-) -> ManyOutcome
+) -> Result<Accepted, RefusedMany>
     ensures returns { ReturnsMany (query_many numbers.now ends.now masks.now thresholds.now allowance answers.old certificate.old results.old) (many_outcome_is result) answers.new certificate.new results.new }
     ensures demand2 { ManyDemand2 numbers.now ends.now masks.now thresholds.now results.old (many_outcome_is result) answers.new certificate.new results.new }
     ensures demand3 { ManyDemand3 numbers.now ends.now masks.now thresholds.now allowance answers.old certificate.old results.old (many_outcome_is result) certificate.new results.new }
 {
-    match query_checks::many_checks(numbers, ends, masks, thresholds, results) {
-        ManyChecked::Refused {
-            number,
-            place,
-            question,
-        } => ManyOutcome::Refused {
-            number: number,
-            place: place,
-            question: question,
-            answers: 0,
-            parts: 0,
-            bytes: 0,
-            doublings: 0,
-            halvings: 0,
-        },
-        ManyChecked::Passed => answer_all(
-            numbers,
-            ends,
-            masks,
-            thresholds,
-            allowance,
-            answers,
-            certificate,
-            results,
-        ),
-    }
+    query_checks::many_checks(numbers, ends, masks, thresholds, results)?;
+    answer_all(
+        numbers,
+        ends,
+        masks,
+        thresholds,
+        allowance,
+        answers,
+        certificate,
+        results,
+    )
 }

@@ -1,7 +1,6 @@
 -- The rows of numbers in which the C boundary returns a verdict, a bound and a part. Definitions only.
 use Rattle.std.specs.Prelude.{ℕ, ◌≤◌, List, [], ◌∷◌, ◌≡◌, length, get_or}
-use Rattle.bound.specs.declared.Bound.{Bound}
-use Rattle.bound.specs.declared.Bound.TheVariants as bound
+use Rattle.bound.specs.Bound.{Bound, Sum, Refused}
 use Rattle.model.specs.Between.{between}
 use Rattle.model.specs.Runs.{slice}
 use Rattle.model.specs.Refusals.{Verdict, valid, invalid}
@@ -13,8 +12,8 @@ verdict_row (invalid x p a n) = x ∷ p ∷ a ∷ n ∷ []
 
 -- refusal, place, bound
 unfoldable pub bound_row : Bound → List ℕ
-bound_row (bound.Sum n) = 0 ∷ 0 ∷ n ∷ []
-bound_row (bound.Refused x p) = x ∷ p ∷ 0 ∷ []
+bound_row (Sum n) = 0 ∷ 0 ∷ n ∷ []
+bound_row (Refused x p) = x ∷ p ∷ 0 ∷ []
 
 -- start and end of the part of a list between two numbers
 pub record PartRow (first last : ℕ) (list row : List ℕ) : Type 0 where

@@ -5,7 +5,7 @@ ghost use Rattle.std.specs.Prelude.{◌≡◌};
 ghost use Rattle.model.specs.Alone.{query_alone};
 ghost use Rattle.model.specs.Many.{query_many};
 ghost use Rattle.model.specs.Refusals.{query, query_weighted, check, check_chosen, check_weighted};
-ghost use Rattle.bound.specs.Bound.{probe_bound, probe_bound_chosen};
+ghost use Rattle.bound.specs.Bound.{bound_is, probe_bound, probe_bound_chosen};
 ghost use Rattle.checker.specs.Verdicts.{verdict_is};
 ghost use Rattle.lcov_form.specs.Reading.{lcov_run};
 ghost use Rattle.pair_model.specs.Pair.{pair};
@@ -14,40 +14,29 @@ ghost use Rattle.quorum_many.specs.Rows.{many_row};
 ghost use Rattle.quorum_rows.specs.Outcomes.{outcome_row};
 ghost use Rattle.quorum.specs.Results.{verdict_row, bound_row, PartRow};
 
-use bound::Bound;
-use checker::Verdict;
+use checker::Counted;
+use refusal::Refusal;
 
 // A verdict as its row.
-fn put_verdict(verdict: Verdict, res: &mut [u64; 4])
+#[tactic(auto, unfolding(crate::specs::Results::verdict_row))]
+fn put_verdict(verdict: Result<Counted, Refusal>, res: &mut [u64; 4])
     ensures { res.new ≡ verdict_row (verdict_is verdict) }
 {
-    match verdict {
-        Verdict::Valid { answers, parts } => {
-            *res = [
-                0,
-                0,
-                arith::u64_of_usize(answers),
-                arith::u64_of_usize(parts),
-            ];
-        }
-        Verdict::Invalid { number, place } => {
-            *res = [number as u64, arith::u64_of_usize(place), 0, 0];
-        }
-    }
+    *res = match verdict {
+        Ok(Counted { answers, parts }) => [0, 0, answers as u64, parts as u64],
+        Err(Refusal { reason, place }) => [u64::from(reason), place as u64, 0, 0],
+    };
 }
 
 // A bound as its row.
-fn put_bound(bound: Bound, res: &mut [u64; 3])
-    ensures { res.new ≡ bound_row bound }
+#[tactic(auto, unfolding(crate::specs::Results::bound_row))]
+fn put_bound(bound: Result<u64, Refusal>, res: &mut [u64; 3])
+    ensures { res.new ≡ bound_row (bound_is bound) }
 {
-    match bound {
-        Bound::Sum(sum) => {
-            *res = [0, 0, sum];
-        }
-        Bound::Refused { number, place } => {
-            *res = [number as u64, arith::u64_of_usize(place), 0];
-        }
-    }
+    *res = match bound {
+        Ok(sum) => [0, 0, sum],
+        Err(Refusal { reason, place }) => [u64::from(reason), place as u64, 0],
+    };
 }
 
 #[unsafe(no_mangle)]
@@ -192,10 +181,7 @@ pub extern "C" fn quorum_between(list: &[u32], first: u32, last: u32, part: &mut
     ensures { PartRow first last list.now part.new }
 {
     let span = between::places(list, first, last);
-    *part = [
-        arith::u64_of_usize(span.start),
-        arith::u64_of_usize(span.end),
-    ];
+    *part = [span.start as u64, span.end as u64];
 }
 
 #[unsafe(no_mangle)]

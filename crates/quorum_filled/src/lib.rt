@@ -5,22 +5,19 @@ ghost use Rattle.std.specs.Prelude.{◌≡◌};
 ghost use Rattle.row_fill.specs.Filling.{check_is, count_is};
 ghost use Rattle.quorum_filled.specs.Rows.{filled_row};
 
-use row_fill::Filled;
+use row_fill::Unfilled;
 
 // An outcome as a row.
-pub fn put_filled(outcome: Filled, res: &mut [u64; 3])
+#[tactic(auto, unfolding(crate::specs::Rows::filled_row))]
+pub fn put_filled(outcome: Result<usize, Unfilled>, res: &mut [u64; 3])
     ensures { res.new ≡ filled_row (check_is outcome) (count_is outcome) }
 {
-    match outcome {
-        Filled::Whole(count) => {
-            *res = [0, 0, arith::u64_of_usize(count)];
-        }
-        Filled::Refused(number, place, count) => {
-            *res = [
-                number as u64,
-                arith::u64_of_usize(place),
-                arith::u64_of_usize(count),
-            ];
-        }
-    }
+    *res = match outcome {
+        Ok(count) => [0, 0, count as u64],
+        Err(Unfilled { refusal, count }) => [
+            u64::from(refusal.reason),
+            refusal.place as u64,
+            count as u64,
+        ],
+    };
 }

@@ -4,61 +4,48 @@
 ghost use Rattle.std.specs.Prelude.{◌≡◌};
 ghost use Rattle.query.specs.Outcomes.{outcome_is};
 ghost use Rattle.quorum_rows.specs.Outcomes.{outcome_row, written_of};
+ghost use Rattle.refusal.specs.Number.{number_of};
 
-use query::Outcome;
+use query::{Accepted, Refused};
+use refusal::{Reason, Refusal};
 
 // The parts that stand where a question is refused: as many as the place tells where its walk is, by 5 to 7, and none before it.
-fn written(number: u8, place: usize) -> u64
-    ensures { result ≡ written_of number place }
+#[tactic(auto, unfolding(crate::specs::Outcomes::written_of))]
+fn written(reason: Reason, place: usize) -> u64
+    ensures { result ≡ written_of (number_of reason) place }
 {
-    if number < 5 {
-        return 0;
+    match reason {
+        Reason::AnswersFull | Reason::CertificateFull | Reason::ProbesSpent => place as u64,
+        _ => 0,
     }
-    if 7 < number {
-        return 0;
-    }
-    arith::u64_of_usize(place)
 }
 
 // An outcome as a row.
-pub fn put_outcome(outcome: Outcome, res: &mut [u64; 7])
+#[tactic(auto, unfolding(crate::specs::Outcomes::outcome_row))]
+pub fn put_outcome(outcome: Result<Accepted, Refused>, res: &mut [u64; 7])
     ensures { res.new ≡ outcome_row (outcome_is outcome) }
 {
-    match outcome {
-        Outcome::Accepted {
-            answers,
-            parts,
-            bytes,
-            doublings,
-            halvings,
-        } => {
-            *res = [
-                0,
-                0,
-                arith::u64_of_usize(answers),
-                arith::u64_of_usize(parts),
-                arith::u64_of_usize(bytes),
-                arith::u64_of_u32(doublings),
-                arith::u64_of_u32(halvings),
-            ];
+    *res = match outcome {
+        Ok(accepted) => [
+            0,
+            0,
+            accepted.answers as u64,
+            accepted.parts as u64,
+            accepted.bytes as u64,
+            u64::from(accepted.doublings),
+            u64::from(accepted.halvings),
+        ],
+        Err(refused) => {
+            let Refusal { reason, place } = refused.refusal;
+            [
+                u64::from(reason),
+                place as u64,
+                refused.answers as u64,
+                written(reason, place),
+                refused.bytes as u64,
+                u64::from(refused.doublings),
+                u64::from(refused.halvings),
+            ]
         }
-        Outcome::Refused {
-            number,
-            place,
-            answers,
-            bytes,
-            doublings,
-            halvings,
-        } => {
-            *res = [
-                number as u64,
-                arith::u64_of_usize(place),
-                arith::u64_of_usize(answers),
-                written(number, place),
-                arith::u64_of_usize(bytes),
-                arith::u64_of_u32(doublings),
-                arith::u64_of_u32(halvings),
-            ];
-        }
-    }
+    };
 }

@@ -1,9 +1,7 @@
 -- What the code's answer means: a place, or none. Definitions only.
-use Rattle.std.specs.Prelude.{ℕ}
-use Rattle.std.proofs.Math.Option.{Option, none, some}
-use Rattle.rising.specs.declared.Found.{Found}
-use Rattle.rising.specs.declared.Found.TheVariants.{At, Nothing}
+use Rattle.std.specs.Prelude.{ℕ, Option, Some, None}
+use Rattle.std.proofs.Math.Option.{none, some}
 
-abbrev pub found_place : Found → Option ℕ
-found_place (At i) = some i
-found_place Nothing = none
+abbrev pub found_place : Option ℕ → Rattle.std.proofs.Math.Option.Option ℕ
+found_place (Some i) = some i
+found_place None = none

@@ -8,8 +8,9 @@ use mathlib.Core.Path.{◌≡◌, refl, sym, ap, ap₂, subst, ◌∙◌}
 use native.Mathlib.Omega.{arith}
 use Rattle.model.specs.Refusals.{over}
 use Rattle.row_fill.specs.Keeps.{Keeps}
-use Rattle.row_fill.specs.declared.Kept.{Kept}
-use Rattle.row_fill.specs.declared.Kept.TheVariants.{All, Full}
+use Rattle.std.specs.Prelude.{Result, Ok, Err}
+use Rattle.refusal.specs.declared.Reason.{Reason}
+use Rattle.refusal.specs.declared.Reason.TheVariants.{AnswersFull}
 
 -- Of what was found, so many are written at the row's front; the rest is due, and the row is as it was from there on.
 pub record Keeping (found row now : List ℕ) (count : ℕ) (rest : List ℕ) : Type 0 where
@@ -28,7 +29,7 @@ later l m a b h e =
     rw (← i, ← (drop-drop (b - a) a l), ← (drop-drop (b - a) a m), e)
 
 module _ {found row now : List ℕ} {count : ℕ} where
-  pub keeping_end : Keeping found row now count [] → Keeps found row now (All count)
+  pub keeping_end : Keeping found row now count [] → Keeps found row now (Ok count)
   unfolding over
   keeping_end k =
       let s = k.same in
@@ -38,14 +39,14 @@ module _ {found row now : List ℕ} {count : ℕ} where
       let h : length found ≤ length row = omega arith in
       (sym n, h, sym (take-append-drop count now) ∙ (ap₂ (λ a b. a ++ b) (sym e) (k.after ∙ ap (λ i. drop i row) (sym n))))
 
-  pub keeping_full : {x : ℕ} {rest : List ℕ} → Keeping found row now count (x ∷ rest) → count ≡ length row → Keeps found row now Full
+  pub keeping_full : {x : ℕ} {rest : List ℕ} → Keeping found row now count (x ∷ rest) → count ≡ length row → Keeps found row now (Err AnswersFull)
   keeping_full {x} {rest} k e =
       let s = k.same in
       let t : take count now ≡ now = ap (λ i. take i now) (e ∙ sym s) ∙ take-length now in
       let f : found ≡ now ++ x ∷ rest = k.split ∙ ap (λ l. l ++ x ∷ rest) t in
       let n = ap length f ∙ length-append now (x ∷ rest) in
       let h : length row < length found = omega arith in
-      (h, sym (ap₂ (λ i l. take i l) (sym s) f ∙ take-append_seam now (x ∷ rest)))
+      (refl, h, sym (ap₂ (λ i l. take i l) (sym s) f ∙ take-append_seam now (x ∷ rest)))
 
   pub keeping_put : {x : ℕ} {rest : List ℕ} → Keeping found row now count (x ∷ rest) → count < length row → Keeping found row (set now count x) (suc count) rest
   keeping_put {x} {rest} k h =
@@ -59,7 +60,7 @@ module _ {found row now : List ℕ} {count : ℕ} where
       }
 
   -- some more are written after these: all of them, or one more of them was due in a full row
-  pub keeping_on : (xs rest next : List ℕ) {n : ℕ} → Keeping found row now count (xs ++ rest) → Keeps (take count now ++ xs) now next (All n)
+  pub keeping_on : (xs rest next : List ℕ) {n : ℕ} → Keeping found row now count (xs ++ rest) → Keeps (take count now ++ xs) now next (Ok n)
       → Keeping found row next n rest
   unfolding over
   keeping_on xs rest next {n} k g =
@@ -82,38 +83,39 @@ module _ {found row now : List ℕ} {count : ℕ} where
         within = omega arith;
       }
 
-  pub keeping_cut : (xs rest next : List ℕ) → Keeping found row now count (xs ++ rest) → Keeps (take count now ++ xs) now next Full → Keeps found row next Full
+  pub keeping_cut : (xs rest next : List ℕ) {r : Reason} → Keeping found row now count (xs ++ rest) → Keeps (take count now ++ xs) now next (Err r)
+      → Keeps found row next (Err r)
   keeping_cut xs rest next k g =
       let s = k.same in
       let m = take count now ++ xs in
       let e : found ≡ m ++ rest = k.split ∙ sym (append_assoc (take count now) xs rest) in
       let n = ap length e ∙ length-append m rest in
-      let i = g.0 in
+      let i = g.1 in
       let h : length row < length found = omega arith in
-      (h, g.1 ∙ sym (ap₂ (λ a b. take a b) (sym s) e ∙ take-append-le (length now) m rest (omega arith)))
+      (g.0, h, g.2 ∙ sym (ap₂ (λ a b. take a b) (sym s) e ∙ take-append-le (length now) m rest (omega arith)))
 
 -- where nothing else is due, what comes of these is what comes of all
-pub keeping_last : {found row now xs : List ℕ} {count : ℕ} (next : List ℕ) (r : Kept) → Keeping found row now count xs → Keeps (take count now ++ xs) now next r
+pub keeping_last : {found row now xs : List ℕ} {count : ℕ} (next : List ℕ) (r : Result ℕ Reason) → Keeping found row now count xs → Keeps (take count now ++ xs) now next r
     → Keeps found row next r
-keeping_last {found} {row} {now} {xs} {count} next (All n) k g =
+keeping_last {found} {row} {now} {xs} {count} next (Ok n) k g =
     keeping_end (keeping_on xs [] next (subst (λ l. Keeping found row now count l) (sym (append-nil xs)) k) g)
-keeping_last {found} {row} {now} {xs} {count} next Full k g =
+keeping_last {found} {row} {now} {xs} {count} next (Err r) k g =
     keeping_cut xs [] next (subst (λ l. Keeping found row now count l) (sym (append-nil xs)) k) g
 
 -- the row keeps its length
-pub keeps_length : (found row next : List ℕ) (r : Kept) → Keeps found row next r → length next ≡ length row
+pub keeps_length : (found row next : List ℕ) (r : Result ℕ Reason) → Keeps found row next r → length next ≡ length row
 unfolding over
-keeps_length found row next (All n) k =
+keeps_length found row next (Ok n) k =
     let h = k.1 in
     ap length k.2 ∙ (length-append found (drop (length found) row) ∙ (let d = length-drop (length found) row in omega arith))
-keeps_length found row next Full k = let h = k.0 in ap length k.1 ∙ length-take-le (length row) found (omega arith)
+keeps_length found row next (Err r) k = let h = k.1 in ap length k.2 ∙ length-take-le (length row) found (omega arith)
 
 -- what then stands in it, all of them or as many as fit
-pub keeps_row : (found row next : List ℕ) (r : Kept) → Keeps found row next r → next ≡ over (take (length row) found) row
+pub keeps_row : (found row next : List ℕ) (r : Result ℕ Reason) → Keeps found row next r → next ≡ over (take (length row) found) row
 unfolding over
-keeps_row found row next (All n) k = k.2 ∙ ap (λ l. over l row) (sym (take_all (length row) found k.1))
-keeps_row found row next Full k =
-    let h = k.0 in
+keeps_row found row next (Ok n) k = k.2 ∙ ap (λ l. over l row) (sym (take_all (length row) found k.1))
+keeps_row found row next (Err r) k =
+    let h = k.1 in
     let l = length-take-le (length row) found (omega arith) in
     let t = take (length row) found in
-    k.1 ∙ sym (ap (λ i. t ++ drop i row) l ∙ (ap (λ e. t ++ e) (drop-length row) ∙ append-nil t))
+    k.2 ∙ sym (ap (λ i. t ++ drop i row) l ∙ (ap (λ e. t ++ e) (drop-length row) ∙ append-nil t))

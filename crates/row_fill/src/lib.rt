@@ -1,16 +1,11 @@
-// Numbers written into a lent row one after another, and what a call returns that fills one. No code.
+// What a call returns that writes numbers into a lent row one after another: `Ok` with their count, and otherwise the refusal that ended it.
 #![tactic(auto)]
 
-// How many were written; or one more was due in a full row.
-#[derive(Drop)]
-pub enum Kept {
-    All(usize),
-    Full,
-}
+use refusal::Refusal;
 
-// What a call returns: the count of the numbers written; before it a refusal's number and place, if one ended it.
-#[derive(Drop)]
-pub enum Filled {
-    Whole(usize),
-    Refused(u8, usize, usize),
+// The refusal that ended a call, and how many numbers it wrote before.
+#[derive(Clone, Copy)]
+pub struct Unfilled {
+    pub refusal: Refusal,
+    pub count: usize,
 }

@@ -1,31 +1,46 @@
 -- Lines laid into a buffer, piece by piece, and how long a line is. Assumes nothing.
-use Prim.Native.Nat.{ℕ, ◌+◌}
-use lib.ListN.{length, length-append}
-use mathlib.Core.List.{List, [], ◌∷◌}
-use mathlib.Core.Path.{◌≡◌, refl}
-use native.Mathlib.Omega.{arith}
+use Rattle.std.proofs.Common.{◌≡◌, ℕ, ◌+◌, ◌<◌, ◌≤◌, List, [], ◌∷◌, ◌++◌, length, get_or, take, refl, sym, ap, ◌∙◌, arith, length-append}
+use Rattle.std.proofs.lemmas.List.{append_assoc, append-nil, take_more}
+use lib.Seq.{take_all}
 use Rattle.text_write.specs.Laying.{Lays}
 use Rattle.text_write.specs.Decimal.{decimal}
 use Rattle.text_write.proofs.Laid.{lays_then}
 use Rattle.text_lines.specs.Lines.{numbers_after, line}
 
-pub after_laid : (x : ℕ) {l l₁ l₂ : List ℕ} {at p₁ p₂ : ℕ} → Lays (32 ∷ []) l at l₁ p₁ → Lays (decimal x) l₁ p₁ l₂ p₂
-    → Lays (32 ∷ decimal x) l at l₂ p₂
-after_laid x g h = lays_then g h
+-- numbers with a space before each
+unfoldable pub spaced : List ℕ → List ℕ
+spaced [] = []
+spaced (x ∷ xs) = 32 ∷ (decimal x ++ spaced xs)
 
--- the end of a line, a number before the rest of it, and the word before the numbers
-pub end_laid : {l l₁ : List ℕ} {at p₁ : ℕ} → Lays (10 ∷ []) l at l₁ p₁ → Lays (numbers_after []) l at l₁ p₁
-unfolding numbers_after
-end_laid g = g
+spaced_append : (xs ys : List ℕ) → spaced (xs ++ ys) ≡ spaced xs ++ spaced ys
+unfolding spaced
+spaced_append [] ys = refl
+spaced_append (x ∷ xs) ys = ap (λ s. 32 ∷ s) (ap (λ s. decimal x ++ s) (spaced_append xs ys) ∙ sym (append_assoc (decimal x) (spaced xs) (spaced ys)))
 
-pub next_laid : (x : ℕ) (xs : List ℕ) {l l₁ l₂ : List ℕ} {at p₁ p₂ : ℕ} → Lays (32 ∷ decimal x) l at l₁ p₁ → Lays (numbers_after xs) l₁ p₁ l₂ p₂
-    → Lays (numbers_after (x ∷ xs)) l at l₂ p₂
-unfolding numbers_after
-next_laid x xs g h = lays_then g h
+spaced_more : (xs : List ℕ) (i : ℕ) → i < length xs → spaced (take (i + 1) xs) ≡ spaced (take i xs) ++ (32 ∷ decimal (get_or xs i 0))
+unfolding spaced
+spaced_more xs i h = ap spaced (take_more xs i 0 h) ∙ (spaced_append (take i xs) (get_or xs i 0 ∷ []) ∙ ap (λ s. spaced (take i xs) ++ (32 ∷ s)) (append-nil _))
 
-pub line_laid : (xs : List ℕ) {word l l₁ l₂ : List ℕ} {at p₁ p₂ : ℕ} → Lays word l at l₁ p₁ → Lays (numbers_after xs) l₁ p₁ l₂ p₂ → Lays (line word xs) l at l₂ p₂
+spaced_end : (xs : List ℕ) → numbers_after xs ≡ spaced xs ++ (10 ∷ [])
+unfolding spaced numbers_after
+spaced_end [] = refl
+spaced_end (x ∷ xs) = ap (λ s. 32 ∷ s) (ap (λ s. decimal x ++ s) (spaced_end xs) ∙ sym (append_assoc (decimal x) (spaced xs) (10 ∷ [])))
+
+-- a word, a number more after it, and the end of the line
+pub word_laid : (word xs : List ℕ) {l l₁ : List ℕ} {at p₁ : ℕ} → Lays word l at l₁ p₁ → Lays (word ++ spaced (take 0 xs)) l at l₁ p₁
+unfolding spaced
+word_laid word xs g = rw append-nil g
+
+pub next_laid : (word xs : List ℕ) (i : ℕ) {l l₁ l₂ l₃ : List ℕ} {at p₁ p₂ p₃ : ℕ} → i < length xs → Lays (word ++ spaced (take i xs)) l at l₁ p₁
+    → Lays (32 ∷ []) l₁ p₁ l₂ p₂ → Lays (decimal (get_or xs i 0)) l₂ p₂ l₃ p₃ → Lays (word ++ spaced (take (i + 1) xs)) l at l₃ p₃
+next_laid word xs i h g s d = rw (spaced_more xs i h, ← (append_assoc word (spaced (take i xs)) (32 ∷ decimal (get_or xs i 0)))) (lays_then g (lays_then s d))
+
+pub line_laid : (word xs : List ℕ) (i : ℕ) {l l₁ l₂ : List ℕ} {at p₁ p₂ : ℕ} → length xs ≤ i → Lays (word ++ spaced (take i xs)) l at l₁ p₁
+    → Lays (10 ∷ []) l₁ p₁ l₂ p₂ → Lays (line word xs) l at l₂ p₂
 unfolding line
-line_laid xs g h = lays_then g h
+line_laid word xs i h g e =
+    let k = rw (take_all i xs h) at g in
+    rw (spaced_end xs, ← (append_assoc word (spaced xs) (10 ∷ []))) (lays_then k e)
 
 -- ---- the length of a line
 

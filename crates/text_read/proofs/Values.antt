@@ -11,6 +11,7 @@ use mathlib.Core.Option.{none, some}
 use mathlib.Core.Path.{◌≡◌, refl, sym, ap, ◌∙◌}
 use native.Mathlib.Numerals.{add-one}
 use native.Mathlib.Omega.{arith}
+use Rattle.std.specs.Char.{is_ascii_digit}
 use Rattle.model.proofs.Tests.{and_true, both, lt_or_le}
 use Rattle.model.specs.Runs.{last_bin, past_bin}
 use Rattle.text_read.specs.declared.Digits.{Digits}
@@ -18,13 +19,10 @@ use Rattle.text_read.specs.Numbers.{is_digit, all_digits, decimal_value, value, 
 
 -- ---- a byte
 
-pub digit_below : (b : ℕ) → b < 48 → is_digit b ≡ false
+-- the library's test
+pub digit_is : (b : ℕ) → is_digit b ≡ is_ascii_digit b
 unfolding is_digit
-digit_below b h = rw (lt-leb 48 b h, is_digit)
-
-pub digit_from : (b : ℕ) → 48 ≤ b → is_digit b ≡ leb b 57
-unfolding is_digit
-digit_from b h = rw (le-leb 48 b h, is_digit)
+digit_is b = refl
 
 pub digit_within : (b : ℕ) → is_digit b ≡ true → (48 ≤ b) × (b ≤ 57)
 unfolding is_digit

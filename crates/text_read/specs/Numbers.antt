@@ -1,14 +1,13 @@
 -- A piece of a text as a decimal number, and the digits that a text begins with. Definitions only.
 use Rattle.std.specs.Prelude.{ℕ, suc, ◌+◌, ◌-◌, ◌*◌, min, true, false, Bool, ◌&&◌, List, [], ◌∷◌, ◌≡◌, leb, take}
+use Rattle.std.specs.Prelude.{Option as Found, Some, None}
 use Rattle.std.proofs.Math.Option.{Option, none, some}
 use Rattle.text_read.specs.declared.Digits.{Digits}
-use Rattle.text_read.specs.declared.Word.{Word}
-use Rattle.text_read.specs.declared.Word.TheVariants.{Number, NoNumber}
 use Rattle.model.specs.Runs.{last_bin, past_bin}
 
-abbrev pub word_is : Word → Option ℕ
-word_is (Number x) = some x
-word_is NoNumber = none
+abbrev pub word_is : Found ℕ → Option ℕ
+word_is (Some x) = some x
+word_is None = none
 
 -- Digits are bytes 48 to 57.
 unfoldable pub is_digit : ℕ → Bool

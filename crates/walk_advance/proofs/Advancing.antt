@@ -25,8 +25,12 @@ use Rattle.walk_settle.specs.Turns.{Stands, Chooses, Goes, Settles}
 use Rattle.walk_advance.specs.Advances.{Raises, Advances}
 use Rattle.walk_write.specs.declared.State.{State}
 use Rattle.walk_write.specs.declared.Turn.{Turn}
-use Rattle.walk_write.specs.declared.Turn.TheVariants.{On, Done, Stopped}
-use Rattle.walk_write.specs.declared.Wrote.TheVariants as wrote'
+use Rattle.walk_write.specs.declared.Turn.TheVariants.{On, Done}
+use Rattle.walk_write.specs.declared.Stopped.{Stopped}
+use Rattle.refusal.specs.Number.{number_of}
+use Rattle.refusal.specs.declared.Reason.{Reason}
+use Rattle.refusal.specs.declared.Reason.TheVariants.{ProbesSpent}
+use Rattle.std.specs.Prelude.{Result, Ok, Err}
 use Rattle.walk_settle.proofs.Choosing.{chosen_labels, chosen_small, chosen_rises, chosen_order, chosen_met, mask_of_chosen, chooses_moved, chosen_moved}
 use Rattle.walk_settle.proofs.Passing.{labels, small, taken_out, heads_from}
 use Rattle.walk_progress.proofs.Rounds.{gap_before, gap_mask, front_in_all, round_is}
@@ -35,7 +39,6 @@ use Rattle.walk_state.specs.Moves.{SearchReady}
 use Rattle.walk_searches.specs.Searches.{Exhausted, SearchedRuns}
 use Rattle.walk_tally.specs.Tally.{left_in, halved_in, undoubled}
 use Rattle.walk_state.specs.State.{runs_at, chosen_at, Holds, InPlay}
-use Rattle.walk_searches.specs.declared.Moved.TheVariants as moved
 use Rattle.walk_state.proofs.Choosing.{idle_equal, idle_searches, searched_keeps}
 use Rattle.walk_state.proofs.Going.{map_still, searched_still}
 
@@ -108,20 +111,19 @@ module _ (numbers ends ws positions keys A B : List ℕ) (m t v : ℕ) (w : Stat
       round_is (walk k t) t w.floor v cs adv.left adv.least
       ∙ (λ i. sym gap_events_are i ++ (idle_searches m rs c.idle ws v (omega arith) i ++ rest k))
 
-  pub gap_stops : (B' : List ℕ) → Writes (gap_events w.floor v (m - named)) w B B' wrote'.Full
-      → Goes (λ k. round (walk k t) t w.floor cs) m numbers ends ws t w A B positions keys A B' (Stopped 6 w) × Raises w.floor (Stopped 6 w)
-  gap_stops B' h = (
+  pub gap_stops : (B' : List ℕ) (reason : Reason) → Writes (gap_events w.floor v (m - named)) w B B' (Err reason)
+      → Goes (λ k. round (walk k t) t w.floor cs) m numbers ends ws t w A B positions keys A B' (Err (record { reason = reason; at = w })) × Raises w.floor (Err (record { reason = reason; at = w }))
+  gap_stops B' reason h = (
     (
-      omega arith,
       omega arith,
       λ allowance k l.
           ap (goes_on allowance w A B) (round_parts k)
-          ∙ (h.1 allowance A (searches v rs ++ rest k) ∙ ap (λ y. ends_with 6 allowance w A y) (sym h.0)),
+          ∙ (h.2 allowance A (searches v rs ++ rest k) ∙ λ i. ends_with (number_of (sym h.0 i)) allowance w A (sym h.1 i)),
     ),
     tt,
   )
 
-  module _ (x : State) (B' : List ℕ) (g : Writes (gap_events w.floor v (m - named)) w B B' (wrote'.On x)) where
+  module _ (x : State) (B' : List ℕ) (g : Writes (gap_events w.floor v (m - named)) w B B' (Ok x)) where
     -- after the gap, to the searches
     to_searches : (allowance k : ℕ) → goes_on allowance w A B (round (walk k t) t w.floor cs) ≡ goes_on allowance x A B' (searches v rs ++ rest k)
     to_searches allowance k = ap (goes_on allowance w A B) (round_parts k) ∙ g.1 allowance A (searches v rs ++ rest k)
@@ -148,15 +150,14 @@ module _ (numbers ends ws positions keys A B : List ℕ) (m t v : ℕ) (w : Stat
         let i = ap (λ y. halvings_within y (searches v rs)) e in
         (q, omega (arith, h.2), omega (arith, h.1, h.2))
 
-    pub searches_stop : (positions' keys' : List ℕ) (tally : ℕ) → SearchedRuns numbers ends ws rs v x.tally positions' keys' (moved.Spent tally)
-        → Goes (λ k. round (walk k t) t w.floor cs) m numbers ends ws t w A B positions' keys' A B' (Stopped 7 (spent_state tally))
-        × Raises w.floor (Stopped 7 (spent_state tally))
+    pub searches_stop : (positions' keys' : List ℕ) (tally : ℕ) → SearchedRuns numbers ends ws rs v x.tally positions' keys' (Err (record { 0 = tally }))
+        → Goes (λ k. round (walk k t) t w.floor cs) m numbers ends ws t w A B positions' keys' A B' (Err (record { reason = ProbesSpent; at = spent_state tally }))
+        × Raises w.floor (Err (record { reason = ProbesSpent; at = spent_state tally }))
     unfolding goes_on ends_with counts_of with_probes probes_so
     searches_stop positions' keys' tally h =
         let l = ap undoubled x_tally in
         let f = (cut_searches (left_in x.tally) tally refl h).2 in (
           (
-            omega arith,
             omega arith,
             λ allowance k o.
                 let q = cut_searches (allowance - probes_so (counts_of allowance x)) tally (omega arith) h in
@@ -172,7 +173,7 @@ module _ (numbers ends ws positions keys A B : List ℕ) (m t v : ℕ) (w : Stat
     abbrev searched_state : ℕ → ℕ → ℕ → State
     searched_state start tally weight = record { floor = v; start = start; answers = x.answers; parts = x.parts; bytes = x.bytes; tally = tally; weight = weight }
 
-    module _ (positions' keys' : List ℕ) (start tally weight : ℕ) (h : SearchedRuns numbers ends ws rs v x.tally positions' keys' (moved.On start tally weight)) where
+    module _ (positions' keys' : List ℕ) (start tally weight : ℕ) (h : SearchedRuns numbers ends ws rs v x.tally positions' keys' (Ok (record { start = start; tally = tally; weight = weight }))) where
       -- halving probes are probes
       still_allowed : undoubled tally ≤ undoubled w.tally
       still_allowed = let b = both_kinds (searches v rs) in let e = ap undoubled x_tally in omega (arith, h.0.0, h.0.1)
@@ -250,11 +251,11 @@ module _ (numbers ends ws positions keys A B : List ℕ) (m t v : ℕ) (w : Stat
           at_least : v ≤ w.floor → (r : Run) → Memᴰ r cs → v ≤ head r
           at_least o r i = let p = heads_chosen r i in omega arith
 
-      settled : (positions'' keys'' A'' B'' : List ℕ) (r : Turn)
+      settled : (positions'' keys'' A'' B'' : List ℕ) (r : Result Turn Stopped)
           → Goes (λ k. settle (walk k t) t v (chosen_at ws m numbers positions' ends)) m numbers ends ws t (searched_state start tally weight) A B' positions'' keys'' A'' B'' r
           → Settles (weighted ws (runs_at 0 numbers positions' ends)) t v r
           → Goes (λ k. round (walk k t) t w.floor cs) m numbers ends ws t w A B positions'' keys'' A'' B'' r × Raises w.floor r
-      settled positions'' keys'' A'' B'' (On y) p u =
+      settled positions'' keys'' A'' B'' (Ok (On y)) p u =
           let l = still_allowed in
           let j = p.3 in (
             (
@@ -266,16 +267,16 @@ module _ (numbers ends ws positions keys A B : List ℕ) (m t v : ℕ) (w : Stat
             ),
             ⊎_elim (λ o. let z = raised o.1 in let y' = o.0 in omega arith) (λ (o : v < y.floor). let z = floor_le in omega arith) u,
           )
-      settled positions'' keys'' A'' B'' (Done y) p u =
+      settled positions'' keys'' A'' B'' (Ok (Done y)) p u =
           let l = still_allowed in
           let j = p.0 in
           ((omega arith, λ allowance k o. to_settle allowance k o ∙ p.1 allowance k (omega arith)), tt)
-      settled positions'' keys'' A'' B'' (Stopped z y) p u =
+      settled positions'' keys'' A'' B'' (Err y) p u =
           let l = still_allowed in
-          let j = p.1 in
-          ((p.0, omega arith, λ allowance k o. to_settle allowance k o ∙ p.2 allowance k (omega arith)), tt)
+          let j = p.0 in
+          ((omega arith, λ allowance k o. to_settle allowance k o ∙ p.1 allowance k (omega arith)), tt)
 
-      pub then_settles : (positions'' keys'' A'' B'' : List ℕ) (r : Turn)
+      pub then_settles : (positions'' keys'' A'' B'' : List ℕ) (r : Result Turn Stopped)
           → ((i : ℕ) → Chooses i numbers ends ws positions' t
           → Goes (λ k. settle (walk k t) t v (chosen_at ws i numbers positions' ends)) i numbers ends ws t (searched_state start tally weight) A B' positions'' keys'' A'' B'' r)
           × Settles (weighted ws (runs_at 0 numbers positions' ends)) t v r

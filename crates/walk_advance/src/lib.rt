@@ -8,8 +8,8 @@ ghost use Rattle.walk_write.specs.Writes.{Fitted};
 ghost use Rattle.walk_settle.specs.Turns.{Stands, Chooses, Goes};
 ghost use Rattle.walk_advance.specs.Advances.{Raises, Advances};
 
-use walk_searches::Moved;
-use walk_write::{State, Turn, Wrote};
+use refusal::Reason;
+use walk_write::{State, Stopped, Turn};
 
 // A round from the head v on: the gap before v, the searches for v, and the answer.
 pub fn advance(
@@ -24,15 +24,16 @@ pub fn advance(
     certificate: &mut [u8],
     v: u32,
     w: State,
-) -> Turn
+) -> Result<Turn, Stopped>
     requires { Stands numbers.now ends.now weights.now positions.old keys.old threshold w × Chooses chosen numbers.now ends.now weights.now positions.old threshold × Fitted certificate.old w × Advances chosen numbers.now ends.now weights.now positions.old threshold v }
     ensures goes { Goes (λ n. round (walk n threshold) threshold w.floor (chosen_at weights.now chosen numbers.now positions.old ends.now)) chosen numbers.now ends.now weights.now threshold w answers.old certificate.old positions.new keys.new answers.new certificate.new result }
     ensures raises { Raises w.floor result }
 {
-    let front = walk_keys::front(keys, w.start, arith::u64_of_u32(v) * 256);
+    let front = walk_keys::front(keys, w.start, u64::from(v) * 256);
     let named = front.named;
-    let Wrote::On(x) = walk_write::gap_before(certificate, w, v, chosen - named) else {
-        return Turn::Stopped(6, w);
+    let x = match walk_write::gap_before(certificate, w, v, chosen - named) {
+        Ok(x) => x,
+        Err(reason) => return Err(Stopped { reason, at: w }),
     };
     match walk_searches::search_runs(
         numbers,
@@ -47,23 +48,7 @@ pub fn advance(
         x.weight,
         front.count,
     ) {
-        Moved::Spent(tally) => Turn::Stopped(
-            7,
-            State {
-                floor: x.floor,
-                start: x.start,
-                answers: x.answers,
-                parts: x.parts,
-                bytes: x.bytes,
-                tally: tally,
-                weight: x.weight,
-            },
-        ),
-        Moved::On {
-            start,
-            tally,
-            weight,
-        } => walk_settle::settle(
+        Ok(moved) => walk_settle::settle(
             numbers,
             ends,
             weights,
@@ -74,13 +59,18 @@ pub fn advance(
             certificate,
             State {
                 floor: v,
-                start: start,
-                answers: x.answers,
-                parts: x.parts,
-                bytes: x.bytes,
-                tally: tally,
-                weight: weight,
+                start: moved.start,
+                tally: moved.tally,
+                weight: moved.weight,
+                ..x
             },
         ),
+        Err(spent) => Err(Stopped {
+            reason: Reason::ProbesSpent,
+            at: State {
+                tally: spent.0,
+                ..x
+            },
+        }),
     }
 }

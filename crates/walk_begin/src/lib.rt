@@ -12,13 +12,11 @@ pub fn first_places(numbers: &[u32], ends: &[u32], firsts: &mut [u32])
     requires { Lent numbers.now ends.now firsts.old }
     ensures { PlacedAt numbers.now ends.now (runs numbers.now ends.now) firsts.new }
 {
-    let mut start: usize = 0;
-    let mut i: usize = 0;
-    while i < ends.len() {
-        let end = arith::usize_of_u32(ends[i]);
+    let mut start = 0;
+    for (i, &end) in ends.iter().enumerate() {
+        let end = end as usize;
         firsts[i] = first_bin::first_place(numbers, start, end) as u32;
         start = end;
-        i += 1;
     }
 }
 
@@ -27,14 +25,12 @@ fn begin_each(ends: &[u32], firsts: &[u32], chosen: u64, positions: &mut [u32])
     requires { (length ends.now ≤ most_runs) × (length firsts.now ≡ length ends.now) × (length positions.old ≡ length ends.now) }
     ensures { ChosenAt ends.now firsts.now chosen positions.new (length ends.now) }
 {
-    let mut i: usize = 0;
-    while i < ends.len() {
-        if mask::names_run(chosen, i as u32) {
-            positions[i] = firsts[i];
+    for (i, position) in positions.iter_mut().enumerate() {
+        *position = if mask::names_run(chosen, i as u32) {
+            firsts[i]
         } else {
-            positions[i] = ends[i];
-        }
-        i += 1;
+            ends[i]
+        };
     }
 }
 
@@ -52,6 +48,6 @@ pub fn begin(
     ensures { Holds numbers.now ends.now positions.new keys.new result (map (standing chosen) (runs_at 0 numbers.now firsts.now ends.now)) }
 {
     begin_each(ends, firsts, chosen, positions);
-    let count = arith::usize_of_u32(mask::ones_of(chosen));
+    let count = mask::ones_of(chosen) as usize;
     walk_put::put_runs(numbers, ends, positions, keys, ends.len(), chosen, count)
 }

@@ -19,7 +19,10 @@ use Rattle.walk_settle.specs.Turns.{Stands, Chooses, Goes}
 use Rattle.walk_advance.specs.Advances.{Raises, Advances}
 use Rattle.walk_write.specs.declared.State.{State}
 use Rattle.walk_write.specs.declared.Turn.{Turn}
-use Rattle.walk_write.specs.declared.Turn.TheVariants.{On, Done, Stopped}
+use Rattle.walk_write.specs.declared.Turn.TheVariants.{On, Done}
+use Rattle.walk_write.specs.declared.Stopped.{Stopped}
+use Rattle.refusal.specs.Number.{number_of}
+use Rattle.std.specs.Prelude.{Result, Ok, Err}
 use Rattle.walk_advance.proofs.Advancing.{heads_small}
 use Rattle.walk_settle.proofs.Choosing.{chosen_labels, chosen_within, chosen_small, chosen_weigh, chosen_rises, chosen_order, chosen_met, mask_of_chosen}
 use Rattle.walk_progress.proofs.Rounds.{gap_mask, front_in_all, round_ends}
@@ -100,11 +103,11 @@ module _ (numbers ends ws positions keys A B : List ℕ) (m t : ℕ) (w : State)
       round_ends (walk n t) t w.floor cs (let e = carried in omega arith)
       ∙ λ i. wrote (gap w.floor last_bin ((sym (gap_mask cs past_bin) ∙ λ j. all_chosen j - sym row_named j) i)) ∷ []
 
-  pub ends_there : (B' : List ℕ) (r : Turn) → w.weight < t → LastGap m keys w B B' r
+  pub ends_there : (B' : List ℕ) (r : Result Turn Stopped) → w.weight < t → LastGap m keys w B B' r
       → Goes (λ n. round (walk n t) t w.floor cs) m numbers ends ws t w A B positions keys A B' r × Raises w.floor r
   unfolding goes_on ends_with
-  ends_there B' (On x) h g = absurd g
-  ends_there B' (Done x) h g =
+  ends_there B' (Ok (On x)) h g = absurd g
+  ends_there B' (Ok (Done x)) h g =
       let l = ap undoubled g.0.tally in (
         (
           omega arith,
@@ -112,18 +115,16 @@ module _ (numbers ends ws positions keys A B : List ℕ) (m t : ℕ) (w : State)
         ),
         tt,
       )
-  ends_there B' (Stopped x y) h g =
-      let p = g.0 in (
-        (
-          omega arith,
-          subst (λ (z : State). undoubled z.tally ≤ undoubled w.tally) (sym g.1) (omega arith),
-          λ allowance n k.
-              ap (goes_on allowance w A B) (last_round h n)
-              ∙ (g.2.1 allowance A []
-              ∙ λ i. ends_with (sym g.0 i) allowance (sym g.1 i) A (sym g.2.0 i)),
-        ),
-        tt,
-      )
+  ends_there B' (Err x) h g = (
+    (
+      subst (λ (z : State). undoubled z.tally ≤ undoubled w.tally) (sym g.0) (omega arith),
+      λ allowance n k.
+          ap (goes_on allowance w A B) (last_round h n)
+          ∙ (g.1.2 allowance A []
+          ∙ λ i. ends_with (number_of (sym g.1.0 i)) allowance (sym g.0 i) A (sym g.1.1 i)),
+    ),
+    tt,
+  )
 
   -- a head that is reached is a bin
   module _ (v : ℕ) (r : Reaches ws t row v) where

@@ -8,7 +8,7 @@ ghost use Rattle.walk_write.specs.Writes.{Fitted};
 ghost use Rattle.walk_settle.specs.Turns.{Stands, Chooses, Goes};
 ghost use Rattle.walk_advance.specs.Advances.{Raises};
 
-use walk_write::{State, Turn};
+use walk_write::{State, Stopped, Turn};
 
 // One round. It ends the walk where the weight still in play, which the state carries, is less than `threshold`.
 pub fn round(
@@ -22,7 +22,7 @@ pub fn round(
     answers: &mut [u32],
     certificate: &mut [u8],
     w: State,
-) -> Turn
+) -> Result<Turn, Stopped>
     requires { Stands numbers.now ends.now weights.now positions.old keys.old threshold w × Chooses chosen numbers.now ends.now weights.now positions.old threshold × Fitted certificate.old w }
     ensures goes { Goes (λ n. round (walk n threshold) threshold w.floor (chosen_at weights.now chosen numbers.now positions.old ends.now)) chosen numbers.now ends.now weights.now threshold w answers.old certificate.old positions.new keys.new answers.new certificate.new result }
     ensures raises { Raises w.floor result }

@@ -9,9 +9,11 @@ use Rattle.walk_tally.specs.Tally.{undoubled}
 use Rattle.walk_write.specs.Writes.{goes_on, ends_with, Fitted}
 use Rattle.walk_settle.specs.Turns.{Stands, Chooses, Goes}
 use Rattle.walk_advance.specs.Advances.{Raises}
-use Rattle.walk_rounds.specs.Ends.{Finishes}
+use Rattle.walk_rounds.specs.Ends.{Finishes, number_at, state_at}
 use Rattle.walk_write.specs.declared.State.{State}
 use Rattle.walk_write.specs.declared.Turn.TheVariants.{On}
+use Rattle.walk_write.specs.declared.Stopped.{Stopped}
+use Rattle.std.specs.Prelude.{Result, Ok}
 use Rattle.walk_state.specs.State.{chosen_at}
 
 -- so many rounds are made from the state w on, with these buffers then
@@ -49,7 +51,7 @@ one_more numbers ends ws m t rs w A B positions keys A' B' x h allowance n k l e
 
 pub made_more : (numbers ends ws : List ℕ) (m t : ℕ) (rs : List Run) (w : State) (A B positions keys A' B' : List ℕ) (x : State)
     → Made numbers ends ws m t rs w A B positions keys A' B' x → (positions'' keys'' A'' B'' : List ℕ) (y : State)
-    → Goes (λ n. round (walk n t) t x.floor (chosen_at ws m numbers positions ends)) m numbers ends ws t x A' B' positions'' keys'' A'' B'' (On y) × Raises x.floor (On y)
+    → Goes (λ n. round (walk n t) t x.floor (chosen_at ws m numbers positions ends)) m numbers ends ws t x A' B' positions'' keys'' A'' B'' (Ok (On y)) × Raises x.floor (Ok (On y))
     → Made numbers ends ws m t rs w A B positions'' keys'' A'' B'' y
 made_more numbers ends ws m t rs w A B positions keys A' B' x h positions'' keys'' A'' B'' y (g, r) =
     let l = h.left in
@@ -68,11 +70,11 @@ made_more numbers ends ws m t rs w A B positions keys A' B' x h positions'' keys
 
 -- a round that ends the walk
 pub made_all : (numbers ends ws : List ℕ) (m t : ℕ) (rs : List Run) (w : State) (A B positions keys A' B' : List ℕ) (x : State)
-    → Made numbers ends ws m t rs w A B positions keys A' B' x → (A'' B'' : List ℕ) (number : ℕ) (y : State) → undoubled y.tally ≤ undoubled x.tally
+    → Made numbers ends ws m t rs w A B positions keys A' B' x → (A'' B'' : List ℕ) (r : Result State Stopped) → undoubled (state_at r).tally ≤ undoubled x.tally
     → ((allowance n : ℕ) → undoubled x.tally ≤ allowance
-    → goes_on allowance x A' B' (round (walk n t) t x.floor (chosen_at ws m numbers positions ends)) ≡ ends_with number allowance y A'' B'')
-    → Finishes rs t w A B A'' B'' (record { number = number; at = y })
-made_all numbers ends ws m t rs w A B positions keys A' B' x h A'' B'' number y k g =
+    → goes_on allowance x A' B' (round (walk n t) t x.floor (chosen_at ws m numbers positions ends)) ≡ ends_with (number_at r) allowance (state_at r) A'' B'')
+    → Finishes rs t w A B A'' B'' r
+made_all numbers ends ws m t rs w A B positions keys A' B' x h A'' B'' r k g =
     let l = h.left in
     record {
       left = omega arith;

@@ -6,16 +6,9 @@ ghost use Rattle.walk_write.specs.Writes.{Fitted};
 ghost use Rattle.walk_settle.specs.Turns.{Stands, Chooses};
 ghost use Rattle.walk_rounds.specs.Ends.{Finishes};
 
-use walk_write::{State, Turn};
+use walk_write::{State, Stopped, Turn};
 
-// How a walk ended: the refusal's number, or 0, and where the walk stood.
-#[derive(Drop)]
-pub struct End {
-    pub number: u8,
-    pub at: State,
-}
-
-// Rounds until one ends the walk.
+// Rounds until one ends the walk: the state at its end, or what stops it before.
 pub fn all_rounds(
     numbers: &[u32],
     ends: &[u32],
@@ -27,7 +20,7 @@ pub fn all_rounds(
     answers: &mut [u32],
     certificate: &mut [u8],
     w: State,
-) -> End
+) -> Result<State, Stopped>
     requires { Stands numbers.now ends.now weights.now positions.old keys.old threshold w × Chooses chosen numbers.now ends.now weights.now positions.old threshold × Fitted certificate.old w }
     ensures { Finishes (chosen_at weights.now chosen numbers.now positions.old ends.now) threshold w answers.old certificate.old answers.new certificate.new result }
 {
@@ -45,14 +38,9 @@ pub fn all_rounds(
             certificate,
             x,
         ) {
-            Turn::On(y) => {
-                x = y;
-            }
-            Turn::Done(y) => return End { number: 0, at: y },
-            Turn::Stopped(number, y) => return End {
-                number: number,
-                at: y,
-            },
+            Ok(Turn::On(y)) => x = y,
+            Ok(Turn::Done(y)) => return Ok(y),
+            Err(stopped) => return Err(stopped),
         }
     }
 }

@@ -1,4 +1,5 @@
 -- One turn of each loop, with the probes made before it, and the two parts of a search put together. Assumes nothing.
+use Rattle.std.specs.Prelude.{Result, Ok, Err}
 use Prim.Native.Nat.{ℕ, zero, suc, ◌+◌, ◌-◌, ◌*◌, ◌/◌, ◌≤◌, ◌<◌}
 use lib.ListN.{length, get_or}
 use mathlib.Core.List.{List}
@@ -9,9 +10,9 @@ use Rattle.model.specs.Walk.{Bracket, doubling, Halving, halving, seek}
 use Rattle.model.proofs.Searching.{double_end, double_stop, double_on, double_fuel, double_inside, double_order, halve_end, halve_up, halve_down, halve_fuel}
 use Rattle.model.proofs.Tests.{lt_or_le}
 use Rattle.walk_search.specs.Limited.{Doubles, Halves, Seeks}
-use Rattle.walk_search.specs.declared.Bracketed.TheVariants.{Between, NoneLeft}
-use Rattle.walk_search.specs.declared.Placed.TheVariants as placed
-use Rattle.walk_search.specs.declared.Sought.TheVariants.{Found, Spent}
+use Rattle.walk_search.specs.declared.Bracket as code
+use Rattle.walk_search.specs.declared.Found.{Found}
+use Rattle.walk_search.specs.declared.Spent.{Spent}
 
 -- ---- doubling
 
@@ -128,31 +129,26 @@ module _ (tally v : ℕ) (s : List ℕ) where
   doubles = doubling (length s) v s 0 1
 
   -- the probes run out in the doubling
-  pub spent_doubling : (after : ℕ) → Doubles tally doubles (NoneLeft after) → Seeks tally (seek v s) (Spent after)
+  pub spent_doubling : (e : Spent) → Doubles tally doubles (Err e) → Seeks tally (seek v s) (Err e)
   unfolding seek
-  spent_doubling after d = (omega (arith, d.0), d.1, omega (arith, d.0, d.2))
+  spent_doubling e d = (omega (arith, d.0), d.1, omega (arith, d.0, d.2))
 
-  module _ (lo hi rest : ℕ) (d : Doubles tally doubles (Between lo hi rest)) where
-    pub doubled_inside : (lo ≤ hi) × (hi ≤ length s)
+  module _ (b : code.Bracket) (d : Doubles tally doubles (Ok b)) where
+    pub doubled_inside : (b.lo ≤ b.hi) × (b.hi ≤ length s)
     doubled_inside =
         let i = double_order (length s) v s 0 1 (omega arith) (omega arith) in
         let j = double_inside (length s) v s 0 1 in
         (omega (arith, d.0, d.1), omega (arith, d.1))
 
     -- the halving is the search's
-    halved_there : halving (length s) v s lo hi ≡ halving (length s) v s doubles.lo doubles.hi
+    halved_there : halving (length s) v s b.lo b.hi ≡ halving (length s) v s doubles.lo doubles.hi
     halved_there i = halving (length s) v s (d.0 i) (d.1 i)
 
-    -- the probes run out in the halving
-    pub spent_halving : (after : ℕ) → Halves rest (halving (length s) v s lo hi) (placed.NoneLeft after) → Seeks tally (seek v s) (Spent after)
+    pub searched : (r : Result Found Spent) → Halves b.tally (halving (length s) v s b.lo b.hi) r → Seeks tally (seek v s) r
     unfolding seek
-    spent_halving after h =
-        let e = ap (λ (x : Halving). x.probes) halved_there in
-        (omega (arith, d.2, h.0), h.1, omega (arith, d.2, d.3, h.2))
-
-    -- both end
-    pub found : (place after : ℕ) → Halves rest (halving (length s) v s lo hi) (placed.At place after) → Seeks tally (seek v s) (Found place after)
-    unfolding seek
-    found place after h =
+    searched (Ok r) h =
         let e = ap (λ (x : Halving). x.probes) halved_there in
         (h.0 ∙ ap (λ (x : Halving). x.place) halved_there, omega (arith, d.2, h.1), omega (arith, d.3, h.2))
+    searched (Err e) h =
+        let q = ap (λ (x : Halving). x.probes) halved_there in
+        (omega (arith, d.2, h.0), h.1, omega (arith, d.2, d.3, h.2))

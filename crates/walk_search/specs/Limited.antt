@@ -1,28 +1,25 @@
 -- A search with a tally of probes: the defined one where those left are enough, and otherwise as many probes of it as are left. Definitions only.
-use Rattle.std.specs.Prelude.{ℕ, ◌+◌, ◌-◌, ◌<◌, ◌≡◌}
-use Rattle.model.specs.Walk.{Bracket, Halving, Search}
+use Rattle.std.specs.Prelude.{ℕ, ◌+◌, ◌-◌, ◌<◌, ◌≡◌, Result, Ok, Err}
+use Rattle.model.specs.Walk as model
 use Rattle.walk_tally.specs.Tally.{left_in, halved_in}
-use Rattle.walk_search.specs.declared.Bracketed.{Bracketed}
-use Rattle.walk_search.specs.declared.Bracketed.TheVariants.{Between, NoneLeft}
-use Rattle.walk_search.specs.declared.Placed.{Placed}
-use Rattle.walk_search.specs.declared.Placed.TheVariants as placed
-use Rattle.walk_search.specs.declared.Sought.{Sought}
-use Rattle.walk_search.specs.declared.Sought.TheVariants.{Found, Spent}
+use Rattle.walk_search.specs.declared.Bracket.{Bracket}
+use Rattle.walk_search.specs.declared.Found.{Found}
+use Rattle.walk_search.specs.declared.Spent.{Spent}
 
 -- a doubling, each probe of which is a doubling probe
-abbrev pub Doubles : ℕ → Bracket → Bracketed → Type 0
-Doubles tally b (Between lo hi after) =
-    (lo ≡ b.lo) × (hi ≡ b.hi) × (left_in after + b.probes ≡ left_in tally) × (halved_in after ≡ halved_in tally)
-Doubles tally b (NoneLeft after) = (left_in tally < b.probes) × (left_in after ≡ 0) × (halved_in after ≡ halved_in tally)
+abbrev pub Doubles : ℕ → model.Bracket → Result Bracket Spent → Type 0
+Doubles tally b (Ok r) =
+    (r.lo ≡ b.lo) × (r.hi ≡ b.hi) × (left_in r.tally + b.probes ≡ left_in tally) × (halved_in r.tally ≡ halved_in tally)
+Doubles tally b (Err e) = (left_in tally < b.probes) × (left_in e.0 ≡ 0) × (halved_in e.0 ≡ halved_in tally)
 
 -- a halving, each probe of which is a halving probe
-abbrev pub Halves : ℕ → Halving → Placed → Type 0
-Halves tally h (placed.At place after) = (place ≡ h.place) × (left_in after + h.probes ≡ left_in tally) × (halved_in after ≡ halved_in tally + h.probes)
-Halves tally h (placed.NoneLeft after) = (left_in tally < h.probes) × (left_in after ≡ 0) × (halved_in after ≡ halved_in tally + left_in tally)
+abbrev pub Halves : ℕ → model.Halving → Result Found Spent → Type 0
+Halves tally h (Ok r) = (r.place ≡ h.place) × (left_in r.tally + h.probes ≡ left_in tally) × (halved_in r.tally ≡ halved_in tally + h.probes)
+Halves tally h (Err e) = (left_in tally < h.probes) × (left_in e.0 ≡ 0) × (halved_in e.0 ≡ halved_in tally + left_in tally)
 
 -- a search: where the probes run out, the doubling probes are made first
-abbrev pub Seeks : ℕ → Search → Sought → Type 0
-Seeks tally f (Found place after) =
-    (place ≡ f.place) × (left_in after + (f.doublings + f.halvings) ≡ left_in tally) × (halved_in after ≡ halved_in tally + f.halvings)
-Seeks tally f (Spent after) =
-    (left_in tally < f.doublings + f.halvings) × (left_in after ≡ 0) × (halved_in after ≡ halved_in tally + (left_in tally - f.doublings))
+abbrev pub Seeks : ℕ → model.Search → Result Found Spent → Type 0
+Seeks tally f (Ok r) =
+    (r.place ≡ f.place) × (left_in r.tally + (f.doublings + f.halvings) ≡ left_in tally) × (halved_in r.tally ≡ halved_in tally + f.halvings)
+Seeks tally f (Err e) =
+    (left_in tally < f.doublings + f.halvings) × (left_in e.0 ≡ 0) × (halved_in e.0 ≡ halved_in tally + (left_in tally - f.doublings))

@@ -7,18 +7,15 @@ ghost use Rattle.walk_state.specs.Moves.{Searchable, SearchReady};
 ghost use Rattle.walk_tally.specs.Tally.{undoubled};
 ghost use Rattle.walk_searches.specs.Searches.{SearchedEach, SearchedRuns};
 
-use walk_seek::Probed;
+use walk_search::Spent;
+use walk_seek::Left;
 
-// Runs moved, with where the row of keys starts, the tally of probes (walk_tally) and the weight still in play (walk_weight); or no probe was left for a search,
-// and the tally then.
-#[derive(Drop)]
-pub enum Moved {
-    On {
-        start: usize,
-        tally: u64,
-        weight: usize,
-    },
-    Spent(u64),
+// Runs moved: where the row of keys starts, the tally of probes (walk_tally) and the weight still in play (walk_weight).
+#[derive(Clone, Copy, Debug, PartialEq, Eq)]
+pub struct Moved {
+    pub start: usize,
+    pub tally: u64,
+    pub weight: usize,
 }
 
 // Searches, in rising run number, each run that `movers` names. At most as many turns as there are runs.
@@ -31,31 +28,30 @@ fn search_each(
     v: u32,
     allowed: u64,
     initial: usize,
-) -> Probed
+) -> Result<Left, Spent>
     requires { Searchable numbers.now ends.now positions.old movers v × (undoubled allowed < 4294967296) × InPlay numbers.now ends.now weights.now positions.old initial }
     ensures { SearchedEach numbers.now ends.now weights.now (runs_at 0 numbers.now positions.old ends.now) v allowed positions.new result }
 {
     let mut rest = movers;
-    let mut tally = allowed;
-    let mut weight = initial;
-    while 0 < rest {
+    let mut left = Left {
+        tally: allowed,
+        weight: initial,
+    };
+    while rest != 0 {
         let run = mask::lowest_run(rest);
-        match walk_seek::search_run(numbers, ends, weights, positions, run, v, tally, weight) {
-            Probed::NoneLeft(spent) => return Probed::NoneLeft(spent),
-            Probed::Left {
-                tally: after,
-                weight: left,
-            } => {
-                tally = after;
-                weight = left;
-            }
-        }
+        left = walk_seek::search_run(
+            numbers,
+            ends,
+            weights,
+            positions,
+            run,
+            v,
+            left.tally,
+            left.weight,
+        )?;
         rest = mask::without_lowest(rest);
     }
-    Probed::Left {
-        tally: tally,
-        weight: weight,
-    }
+    Ok(left)
 }
 
 // Searches each run that `movers` names, and then puts their keys back: a search and a place in the row are both hard to foretell, and apart they cost less. Where
@@ -72,28 +68,24 @@ pub fn search_runs(
     allowed: u64,
     initial: usize,
     count: usize,
-) -> Moved
+) -> Result<Moved, Spent>
     requires { SearchReady numbers.now ends.now positions.old keys.old from movers v × (undoubled allowed < 4294967296) × InPlay numbers.now ends.now weights.now positions.old initial }
     ensures { SearchedRuns numbers.now ends.now weights.now (runs_at 0 numbers.now positions.old ends.now) v allowed positions.new keys.new result }
 {
     if movers == 0 {
-        return Moved::On {
+        return Ok(Moved {
             start: from,
             tally: allowed,
             weight: initial,
-        };
+        });
     }
-    match search_each(
+    let left = search_each(
         numbers, ends, weights, positions, movers, v, allowed, initial,
-    ) {
-        Probed::NoneLeft(spent) => Moved::Spent(spent),
-        Probed::Left { tally, weight } => {
-            let start = walk_put::put_runs(numbers, ends, positions, keys, from, movers, count);
-            Moved::On {
-                start: start,
-                tally: tally,
-                weight: weight,
-            }
-        }
-    }
+    )?;
+    let start = walk_put::put_runs(numbers, ends, positions, keys, from, movers, count);
+    Ok(Moved {
+        start,
+        tally: left.tally,
+        weight: left.weight,
+    })
 }

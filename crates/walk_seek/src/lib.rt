@@ -7,30 +7,13 @@ ghost use Rattle.walk_state.specs.State.{InPlay};
 ghost use Rattle.walk_tally.specs.Tally.{undoubled};
 ghost use Rattle.walk_seek.specs.Searched.{SearchedRun};
 
-use walk_search::Sought;
+use walk_search::Spent;
 
-// The tally after a search (walk_tally) and the weight then in play; or the tally where no probe was left for it.
-#[derive(Drop)]
-pub enum Probed {
-    Left { tally: u64, weight: usize },
-    NoneLeft(u64),
-}
-
-// The places in `numbers` that a search goes through.
-#[derive(Drop)]
-pub struct Places {
-    pub from: usize,
-    pub to: usize,
-}
-
-// A search of a run begins at the run's position and ends at its end.
-fn searched_places(ends: &[u32], positions: &[u32], i: usize) -> Places
-    requires { (i < length ends.now) × (i < length positions.now) }
-    ensures { (result.from ≡ get_or positions.now i 0) × (result.to ≡ get_or ends.now i 0) }
-{
-    let from = arith::usize_of_u32(positions[i]);
-    let to = arith::usize_of_u32(ends[i]);
-    Places { from: from, to: to }
+// After a search: the tally (walk_tally) and the weight then in play.
+#[derive(Clone, Copy, Debug, PartialEq, Eq)]
+pub struct Left {
+    pub tally: u64,
+    pub weight: usize,
 }
 
 // Searches run `run`, which has a number at its position, for v and moves it there.
@@ -43,28 +26,20 @@ pub fn search_run(
     v: u32,
     tally: u64,
     weight: usize,
-) -> Probed
+) -> Result<Left, Spent>
     requires placeable { Placeable numbers.now ends.now positions.old run × (undoubled tally < 4294967296) }
     requires run_bound { (get_or positions.old run 0 < get_or ends.now run 0) × InPlay numbers.now ends.now weights.now positions.old weight }
     ensures { SearchedRun numbers.now ends.now weights.now positions.old run v tally positions.new result }
 {
-    let i = arith::usize_of_u32(run);
-    let places = searched_places(ends, positions, i);
-    let p = places.from;
-    let e = places.to;
-    match walk_search::search(&numbers[p..e], v, tally) {
-        Sought::Spent(spent) => Probed::NoneLeft(spent),
-        Sought::Found {
-            place,
-            tally: after,
-        } => {
-            let q = p + place;
-            positions[i] = q as u32;
-            let left = walk_weight::moved(weights, i, q, e, weight);
-            Probed::Left {
-                tally: after,
-                weight: left,
-            }
-        }
-    }
+    let i = run as usize;
+    let start = positions[i] as usize;
+    let end = ends[i] as usize;
+    let found = walk_search::search(&numbers[start..end], v, tally)?;
+    let next = start + found.place;
+    positions[i] = next as u32;
+    let left = walk_weight::moved(weights, i, next, end, weight);
+    Ok(Left {
+        tally: found.tally,
+        weight: left,
+    })
 }

@@ -18,10 +18,12 @@ use Rattle.model.proofs.Weighted.{weighted_mem}
 use Rattle.walk_keys.specs.Row.{below_count, label_sum}
 use Rattle.walk_write.specs.Writes.{counts_of, goes_on, ends_with, Fitted, Answers}
 use Rattle.walk_settle.specs.Turns.{Stands, Chooses, Goes, Settles, AtFloor, Passes}
-use Rattle.walk_write.specs.declared.Answered.TheVariants as answered'
 use Rattle.walk_write.specs.declared.State.{State}
 use Rattle.walk_write.specs.declared.Turn.{Turn}
-use Rattle.walk_write.specs.declared.Turn.TheVariants.{On, Done, Stopped}
+use Rattle.walk_write.specs.declared.Turn.TheVariants.{On, Done}
+use Rattle.std.specs.Prelude.{Result, Ok, Err}
+use Rattle.refusal.specs.declared.Reason.{Reason}
+use Rattle.walk_write.specs.declared.Stopped.{Stopped}
 use Rattle.walk_settle.proofs.Choosing.{chooses_moved, chosen_moved}
 use Rattle.walk_settle.proofs.Passing.{labels, number, small, heads_from, floor_mask}
 use Rattle.walk_write.proofs.Rows.{front_mask, front_count}
@@ -109,7 +111,7 @@ module _ (numbers ends ws positions keys : List ℕ) (t : ℕ) (w : State) (n na
 
   -- what is ensured of a turn: the walk over any choice of runs goes so
   module _ (A B : List ℕ) (held : ℕ) (weight : held ≡ named_weight ws named) where
-    abbrev Ensured : List ℕ → List ℕ → List ℕ → List ℕ → Turn → Type 0
+    abbrev Ensured : List ℕ → List ℕ → List ℕ → List ℕ → Result Turn Stopped → Type 0
     Ensured positions' keys' A' B' r =
         ((m : ℕ) → Chooses m numbers ends ws positions t
         → Goes (λ k. settle (walk k t) t w.floor (chosen_at ws m numbers positions ends)) m numbers ends ws t w A B positions' keys' A' B' r)
@@ -142,28 +144,27 @@ module _ (numbers ends ws positions keys : List ℕ) (t : ℕ) (w : State) (n na
           settle_answers (walk k t) t w.floor cs (is_answer h) e
           ∙ ap (λ x. wrote (answer w.floor x) ∷ walk k t (suc w.floor) (map (moved_on w.floor) cs)) (sym mask_is)
 
-    pub no_answer : Fitted B w → held < t → Ensured positions keys A B (On w)
+    pub no_answer : Fitted B w → held < t → Ensured positions keys A B (Ok (On w))
     no_answer f h =
         let e = weight ∙ weight_is in
         ((λ m c. (s, c, f, omega arith, λ allowance k l. ap (goes_on allowance w A B) (passes_it m c h k))), inl (refl, omega arith))
 
-    pub answer_stops : (x : ℕ) (A' B' : List ℕ) → t ≤ held → Answers w named A B A' B' (answered'.Full x) → Ensured positions keys A' B' (Stopped x w)
+    pub answer_stops : (x : Reason) (A' B' : List ℕ) → t ≤ held → Answers w named A B A' B' (Err x) → Ensured positions keys A' B' (Err (record { reason = x; at = w }))
     answer_stops x A' B' h a = (
       (λ m c. (
-        a.0,
         omega arith,
         λ allowance k l.
             ⊎_elim
-            (λ (e : w.floor ≡ last_bin). ap (goes_on allowance w A B) (ends_there m c h e k) ∙ a.1 allowance [])
+            (λ (e : w.floor ≡ last_bin). ap (goes_on allowance w A B) (ends_there m c h e k) ∙ a allowance [])
             (λ (e : w.floor ≢ last_bin).
-            ap (goes_on allowance w A B) (goes_there m c h e k) ∙ a.1 allowance (walk k t (suc w.floor) (map (moved_on w.floor) (chosen_at ws m numbers positions ends))))
+            ap (goes_on allowance w A B) (goes_there m c h e k) ∙ a allowance (walk k t (suc w.floor) (map (moved_on w.floor) (chosen_at ws m numbers positions ends))))
             (eq_or_ne w.floor last_bin),
       )),
       tt,
     )
 
     -- the state after an answer, and the front of the row there
-    pub stands_after : (x : State) (A' B' : List ℕ) → Answers w named A B A' B' (answered'.On x)
+    pub stands_after : (x : State) (A' B' : List ℕ) → Answers w named A B A' B' (Ok x)
         → Stands numbers ends ws positions keys t x × AtFloor numbers ends positions keys x n named
     stands_after x A' B' a = (
       stands_same numbers ends ws positions keys t w x a.1 a.2 a.3 a.4 s,
@@ -174,8 +175,8 @@ module _ (numbers ends ws positions keys : List ℕ) (t : ℕ) (w : State) (n na
       },
     )
 
-    answer_ends : (x x' : State) (A' B' positions' keys' : List ℕ) → t ≤ held → Answers w named A B A' B' (answered'.On x)
-        → Passes numbers ends ws positions t x positions' keys' (Done x') → Ensured positions' keys' A' B' (Done x')
+    answer_ends : (x x' : State) (A' B' positions' keys' : List ℕ) → t ≤ held → Answers w named A B A' B' (Ok x)
+        → Passes numbers ends ws positions t x positions' keys' (Done x') → Ensured positions' keys' A' B' (Ok (Done x'))
     unfolding goes_on ends_with
     answer_ends x x' A' B' positions' keys' h a p =
         let e = ap (λ (y : State). undoubled y.tally) p.1 in
@@ -190,8 +191,8 @@ module _ (numbers ends ws positions keys : List ℕ) (t : ℕ) (w : State) (n na
           tt,
         )
 
-    answer_goes : (x x' : State) (A' B' positions' keys' : List ℕ) → t ≤ held → Answers w named A B A' B' (answered'.On x)
-        → Passes numbers ends ws positions t x positions' keys' (On x') → Ensured positions' keys' A' B' (On x')
+    answer_goes : (x x' : State) (A' B' positions' keys' : List ℕ) → t ≤ held → Answers w named A B A' B' (Ok x)
+        → Passes numbers ends ws positions t x positions' keys' (On x') → Ensured positions' keys' A' B' (Ok (On x'))
     unfolding goes_on
     answer_goes x x' A' B' positions' keys' h a p =
         let f : x.floor ≡ w.floor = a.1 in
@@ -214,8 +215,7 @@ module _ (numbers ends ws positions keys : List ℕ) (t : ℕ) (w : State) (n na
           inr (omega arith),
         )
 
-    pub answer_passes : (x : State) (A' B' positions' keys' : List ℕ) → t ≤ held → Answers w named A B A' B' (answered'.On x) → (r : Turn)
-        → Passes numbers ends ws positions t x positions' keys' r → Ensured positions' keys' A' B' r
+    pub answer_passes : (x : State) (A' B' positions' keys' : List ℕ) → t ≤ held → Answers w named A B A' B' (Ok x) → (r : Turn)
+        → Passes numbers ends ws positions t x positions' keys' r → Ensured positions' keys' A' B' (Ok r)
     answer_passes x A' B' positions' keys' h a (On x') p = answer_goes x x' A' B' positions' keys' h a p
     answer_passes x A' B' positions' keys' h a (Done x') p = answer_ends x x' A' B' positions' keys' h a p
-    answer_passes x A' B' positions' keys' h a (Stopped y x') p = absurd p

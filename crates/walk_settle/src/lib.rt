@@ -10,17 +10,17 @@ ghost use Rattle.walk_write.specs.Writes.{Fitted};
 ghost use Rattle.weights.specs.Named.{named_weight, Weighs};
 ghost use Rattle.walk_settle.specs.Turns.{Stands, Chooses, Goes, Settles, AtFloor, Passes};
 
-use walk_write::{Answered, State, Turn};
+use walk_write::{State, Stopped, Turn};
 
 // What the runs that the mask names weigh, `count` of them: as many where there are no weights.
 fn weight_here(count: usize, named: u64, weights: &[u32]) -> usize
     requires { (count ≡ ones named) × Weighs named weights.now }
     ensures { result ≡ named_weight weights.now named }
 {
-    if 0 < weights.len() {
-        return weights::named_weight(named, weights);
+    if weights.is_empty() {
+        return count;
     }
-    count
+    weights::named_weight(named, weights)
 }
 
 // Past an answer at the floor: ends at the last bin, and otherwise moves the runs that hold it on by one.
@@ -55,11 +55,8 @@ fn pass(
     Turn::On(State {
         floor: w.floor + 1,
         start: stepped.start,
-        answers: w.answers,
-        parts: w.parts,
-        bytes: w.bytes,
-        tally: w.tally,
         weight: stepped.weight,
+        ..w
     })
 }
 
@@ -75,19 +72,19 @@ pub fn settle(
     answers: &mut [u32],
     certificate: &mut [u8],
     w: State,
-) -> Turn
+) -> Result<Turn, Stopped>
     requires { Stands numbers.now ends.now weights.now positions.old keys.old threshold w × Fitted certificate.old w }
     ensures goes { (m : ℕ) → Chooses m numbers.now ends.now weights.now positions.old threshold → Goes (λ n. settle (walk n threshold) threshold w.floor (chosen_at weights.now m numbers.now positions.old ends.now)) m numbers.now ends.now weights.now threshold w answers.old certificate.old positions.new keys.new answers.new certificate.new result }
     ensures settles { Settles (weighted weights.now (runs_at 0 numbers.now positions.old ends.now)) threshold w.floor result }
 {
-    let here = walk_keys::front(keys, w.start, (arith::u64_of_u32(w.floor) + 1) * 256);
+    let here = walk_keys::front(keys, w.start, (u64::from(w.floor) + 1) * 256);
     if weight_here(here.count, here.named, weights) < threshold {
-        return Turn::On(w);
+        return Ok(Turn::On(w));
     }
     match walk_write::write_answer(answers, certificate, w, here.named) {
-        Answered::Full(number) => Turn::Stopped(number, w),
-        Answered::On(x) => pass(
+        Ok(x) => Ok(pass(
             numbers, ends, weights, threshold, positions, keys, x, here.count, here.named,
-        ),
+        )),
+        Err(reason) => Err(Stopped { reason, at: w }),
     }
 }

@@ -21,8 +21,7 @@ fn step_each(numbers: &[u32], ends: &[u32], positions: &mut [u32], movers: u64)
     let mut rest = movers;
     while 0 < rest {
         let run = mask::lowest_run(rest);
-        let i = arith::usize_of_u32(run);
-        positions[i] = positions[i] + 1;
+        positions[run as usize] += 1;
         rest = mask::without_lowest(rest);
     }
 }
@@ -55,7 +54,7 @@ pub fn step_runs(
         weight,
     );
     Stepped {
-        start: start,
+        start,
         weight: left,
     }
 }

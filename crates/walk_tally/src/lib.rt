@@ -9,7 +9,7 @@ ghost use Rattle.walk_tally.specs.Tally.{left_in, halved_in, undoubled};
 pub fn whole(allowance: u32) -> u64
     ensures { (left_in result ≡ allowance) × (halved_in result ≡ 0) }
 {
-    arith::u64_of_u32(allowance)
+    u64::from(allowance)
 }
 
 // The probes left.

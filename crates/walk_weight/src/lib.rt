@@ -35,9 +35,9 @@ fn lowered(
     while 0 < rest {
         let run = mask::lowest_run(rest);
         rest = mask::without_lowest(rest);
-        let i = arith::usize_of_u32(run);
-        let place = arith::usize_of_u32(positions[i]);
-        let end = arith::usize_of_u32(ends[i]);
+        let i = run as usize;
+        let place = positions[i] as usize;
+        let end = ends[i] as usize;
         weight = moved(weights, i, place, end, weight);
     }
     weight

@@ -19,7 +19,8 @@ use Rattle.walk_write.specs.Writes.{counts_of, goes_on, Fitted}
 use Rattle.walk_settle.specs.Turns.{Stands, Chooses}
 use Rattle.walk_rounds.specs.Ends.{Finishes}
 use Rattle.walk_whole.specs.Whole.{asked_runs, Begins, counts_from, ComesTo}
-use Rattle.walk_rounds.specs.declared.End.{End}
+use Rattle.std.specs.Prelude.{Result}
+use Rattle.walk_write.specs.declared.Stopped.{Stopped}
 use Rattle.walk_write.specs.declared.State.{State}
 use Rattle.walk_begin.proofs.Standing.{standing_idle, standing_chosen, standing_rises}
 use Rattle.walk_keys.specs.Row.{sum_of, key_weight, HaveWeights}
@@ -97,7 +98,7 @@ module _ (numbers ends ws firsts : List ℕ) (m t : ℕ) (positions keys A B : L
     chosen_first : asked_runs numbers ends ws m ≡ chosen_at ws m numbers positions' ends
     chosen_first = ap (weighted ws) (sym (ap (chosen m) h.runs_are_law ∙ standing_chosen m (runs numbers ends)))
 
-    pub comes_first : (weight : ℕ) (A' B' : List ℕ) (r : End) → Finishes (chosen_at ws m numbers positions' ends) t (first_state start answered written tally weight) A B A' B' r
+    pub comes_first : (weight : ℕ) (A' B' : List ℕ) (r : Result State Stopped) → Finishes (chosen_at ws m numbers positions' ends) t (first_state start answered written tally weight) A B A' B' r
         → ComesTo numbers ends ws m t answered written tally A B A' B' r
     unfolding goes_on counts_of counts_from whole_walk
     comes_first weight A' B' r f =

@@ -1,13 +1,15 @@
 -- The walk of a question over chosen runs from its beginning to its end, in buffers that hold what the questions before it wrote. Definitions only.
-use Rattle.std.specs.Prelude.{ℕ, ◌^◌, ◌≤◌, ◌<◌, List, ◌≡◌, length}
+use Rattle.std.specs.Prelude.{ℕ, ◌^◌, ◌≤◌, ◌<◌, List, ◌≡◌, length, Result}
 use Rattle.model.specs.Compared.{whole_walk}
 use Rattle.model.specs.Refusals.{passed, list_checks}
 use Rattle.model.specs.Runs.{Run, runs, weighted, weight_of_all, chosen, most_runs}
 use Rattle.walk_progress.specs.Progress.{Counts, counts_with, onward}
-use Rattle.walk_rounds.specs.declared.End.{End}
+use Rattle.walk_rounds.specs.Ends.{number_at, state_at}
 use Rattle.walk_state.specs.Moves.{PlacedAt}
 use Rattle.walk_tally.specs.Tally.{undoubled}
 use Rattle.walk_write.specs.Writes.{ends_with}
+use Rattle.walk_write.specs.declared.State.{State}
+use Rattle.walk_write.specs.declared.Stopped.{Stopped}
 
 -- the runs of a question: those that a mask chooses, each with its weight
 abbrev pub asked_runs : List ℕ → List ℕ → List ℕ → ℕ → List Run
@@ -37,8 +39,8 @@ unfoldable pub counts_from : ℕ → ℕ → ℕ → ℕ → Counts
 counts_from allowance answered written tally = counts_with allowance answered 0 written tally
 
 -- The walk ended so, and with these buffers, as the question does, of whatever allowance the tally was.
-pub record ComesTo (numbers ends weights : List ℕ) (m t answered written tally : ℕ) (answers certificate answers' certificate' : List ℕ) (r : End) : Type 0 where
-  pub left_then : undoubled r.at.tally ≤ undoubled tally
+pub record ComesTo (numbers ends weights : List ℕ) (m t answered written tally : ℕ) (answers certificate answers' certificate' : List ℕ) (r : Result State Stopped) : Type 0 where
+  pub left_then : undoubled (state_at r).tally ≤ undoubled tally
   pub as_asked : (allowance : ℕ) → undoubled tally ≤ allowance
       → onward allowance (counts_from allowance answered written tally) answers certificate (whole_walk t (asked_runs numbers ends weights m))
-      ≡ ends_with r.number allowance r.at answers' certificate'
+      ≡ ends_with (number_at r) allowance (state_at r) answers' certificate'

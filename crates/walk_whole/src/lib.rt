@@ -4,8 +4,7 @@
 
 ghost use Rattle.walk_whole.specs.Whole.{Asked, Begins, ComesTo};
 
-use walk_rounds::End;
-use walk_write::State;
+use walk_write::{State, Stopped};
 
 // The walk over the chosen runs, from its beginning to its end. `weights` has a weight for each run, or none: then each weighs 1. `firsts` holds the places of all
 // runs' first bins. `answered` answers and `written` bytes stand in the buffers, and the walk writes after them; `answered` above the length of `answers` tells it not to
@@ -24,7 +23,7 @@ fn whole_walk(
     written: usize,
     tally: u64,
     firsts: &[u32],
-) -> End
+) -> Result<State, Stopped>
     requires { Begins numbers.now ends.now weights.now firsts.now chosen threshold positions.old keys.old certificate.old written tally }
     ensures { ComesTo numbers.now ends.now weights.now chosen threshold answered written tally answers.old certificate.old answers.new certificate.new result }
 {
@@ -42,12 +41,12 @@ fn whole_walk(
         certificate,
         State {
             floor: limits::FIRST_BIN,
-            start: start,
+            start,
             answers: answered,
             parts: 0,
             bytes: written,
-            tally: tally,
-            weight: weight,
+            tally,
+            weight,
         },
     )
 }
@@ -66,7 +65,7 @@ pub fn question_walk(
     written: usize,
     tally: u64,
     firsts: &[u32],
-) -> End
+) -> Result<State, Stopped>
     requires { Asked numbers.now ends.now weights.now firsts.now chosen threshold certificate.old written tally }
     ensures { ComesTo numbers.now ends.now weights.now chosen threshold answered written tally answers.old certificate.old answers.new certificate.new result }
 {

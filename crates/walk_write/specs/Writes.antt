@@ -1,17 +1,17 @@
 -- A walk's state between its steps, and what the steps that write a part ask and give: what the question comes to stays the same. Definitions only.
-use Rattle.std.specs.Prelude.{ℕ, ◌+◌, ◌-◌, ◌≤◌, ◌<◌, true, false, ◌≡◌, ltb, length, drop}
+use Rattle.std.specs.Prelude.{ℕ, ◌+◌, ◌-◌, ◌≤◌, ◌<◌, true, false, ◌≡◌, ltb, length, drop, Result, Ok, Err}
 use mathlib.Core.List.{List, [], ◌∷◌, ◌++◌, Memᴰ}
 use Rattle.model.specs.Certificate.{answer, gap}
 use Rattle.model.specs.Walk.{Event, wrote}
 use Rattle.walk_keys.specs.Row.{no_key, Labels, label_sum}
 use Rattle.walk_progress.specs.Progress.{Counts, counts_with, ended, onward}
-use Rattle.walk_write.specs.declared.Answered.{Answered}
-use Rattle.walk_write.specs.declared.Answered.TheVariants as answered'
+use Rattle.refusal.specs.Number.{number_of}
+use Rattle.refusal.specs.declared.Reason.{Reason}
+use Rattle.refusal.specs.declared.Reason.TheVariants.{CertificateFull}
 use Rattle.walk_write.specs.declared.State.{State}
+use Rattle.walk_write.specs.declared.Stopped.{Stopped}
 use Rattle.walk_write.specs.declared.Turn.{Turn}
-use Rattle.walk_write.specs.declared.Turn.TheVariants.{On, Done, Stopped}
-use Rattle.walk_write.specs.declared.Wrote.{Wrote}
-use Rattle.walk_write.specs.declared.Wrote.TheVariants as wrote'
+use Rattle.walk_write.specs.declared.Turn.TheVariants.{On, Done}
 use Rattle.model.specs.Runs.{last_bin}
 
 -- the counts of a state
@@ -46,12 +46,12 @@ pub record Grown (w : State) (certificate : List ℕ) (w' : State) (certificate'
   pub parts : w'.parts ≤ w'.bytes
 
 -- some events that write at most one part are done, or the part does not fit
-abbrev pub Writes : List Event → State → List ℕ → List ℕ → Wrote → Type 0
-Writes ds w certificate certificate' (wrote'.On w') =
+abbrev pub Writes : List Event → State → List ℕ → List ℕ → Result State Reason → Type 0
+Writes ds w certificate certificate' (Ok w') =
     Grown w certificate w' certificate'
     × ((allowance : ℕ) (answers : List ℕ) (es : List Event) → goes_on allowance w answers certificate (ds ++ es) ≡ goes_on allowance w' answers certificate' es)
-Writes ds w certificate certificate' wrote'.Full =
-    (certificate' ≡ certificate)
+Writes ds w certificate certificate' (Err reason) =
+    (reason ≡ CertificateFull) × (certificate' ≡ certificate)
     × ((allowance : ℕ) (answers : List ℕ) (es : List Event) → goes_on allowance w answers certificate (ds ++ es) ≡ ends_with 6 allowance w answers certificate)
 
 -- the gap from the floor to v − 1, where the floor is below v
@@ -59,13 +59,12 @@ unfoldable pub gap_events : ℕ → ℕ → ℕ → List Event
 gap_events floor v named = elim (ltb floor v) [ true ↦ wrote (gap floor (v - 1) named) ∷ [] | false ↦ [] ]
 
 -- an answer is written, into the certificate alone where the walk is told not to write answers, or a buffer is full
-abbrev pub Answers : State → ℕ → List ℕ → List ℕ → List ℕ → List ℕ → Answered → Type 0
-Answers w named answers certificate answers' certificate' (answered'.On w') =
+abbrev pub Answers : State → ℕ → List ℕ → List ℕ → List ℕ → List ℕ → Result State Reason → Type 0
+Answers w named answers certificate answers' certificate' (Ok w') =
     Fitted certificate' w' × (w'.floor ≡ w.floor) × (w'.start ≡ w.start) × (w'.tally ≡ w.tally) × (w'.weight ≡ w.weight)
     × ((allowance : ℕ) (es : List Event) → goes_on allowance w answers certificate (wrote (answer w.floor named) ∷ es) ≡ goes_on allowance w' answers' certificate' es)
-Answers w named answers certificate answers' certificate' (answered'.Full x) =
-    (0 < x)
-    × ((allowance : ℕ) (es : List Event) → goes_on allowance w answers certificate (wrote (answer w.floor named) ∷ es) ≡ ends_with x allowance w answers' certificate')
+Answers w named answers certificate answers' certificate' (Err reason) =
+    ((allowance : ℕ) (es : List Event) → goes_on allowance w answers certificate (wrote (answer w.floor named) ∷ es) ≡ ends_with (number_of reason) allowance w answers' certificate')
 
 -- the row of keys names chosen runs alone
 pub record LastReady (chosen : ℕ) (keys certificate : List ℕ) (w : State) : Type 0 where
@@ -77,10 +76,9 @@ pub record LastReady (chosen : ℕ) (keys certificate : List ℕ) (w : State) : 
   pub parts : w.parts ≤ w.bytes
 
 -- the last gap, which names the chosen runs that have no key in the row
-abbrev pub LastGap : ℕ → List ℕ → State → List ℕ → List ℕ → Turn → Type 0
-LastGap chosen keys w certificate certificate' (On w') = ⊥
-LastGap chosen keys w certificate certificate' (Done w') =
-    Writes (wrote (gap w.floor last_bin (chosen - label_sum (drop w.start keys))) ∷ []) w certificate certificate' (wrote'.On w')
-LastGap chosen keys w certificate certificate' (Stopped x w') =
-    (x ≡ 6) × (w' ≡ w)
-    × Writes (wrote (gap w.floor last_bin (chosen - label_sum (drop w.start keys))) ∷ []) w certificate certificate' wrote'.Full
+abbrev pub LastGap : ℕ → List ℕ → State → List ℕ → List ℕ → Result Turn Stopped → Type 0
+LastGap chosen keys w certificate certificate' (Ok (On w')) = ⊥
+LastGap chosen keys w certificate certificate' (Ok (Done w')) =
+    Writes (wrote (gap w.floor last_bin (chosen - label_sum (drop w.start keys))) ∷ []) w certificate certificate' (Ok w')
+LastGap chosen keys w certificate certificate' (Err s) =
+    (s.at ≡ w) × Writes (wrote (gap w.floor last_bin (chosen - label_sum (drop w.start keys))) ∷ []) w certificate certificate' (Err s.reason)

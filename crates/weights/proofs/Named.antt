@@ -4,11 +4,9 @@ use borrow.Author.Tests.{eq-eqb, ne_eqb}
 use lib.Bits.{bit_and}
 use lib.Count.{ones, ones_step}
 use lib.Dec.{eqb}
-use lib.ListN.{length, get_or, take}
+use lib.ListN.{length, get_or}
 use lib.Pow.{shr-shr}
-use lib.Seq.{take-suc}
-use mathlib.Core.Bool.{true, false}
-use mathlib.Core.List.{List, [], ◌∷◌, ◌++◌}
+use mathlib.Core.List.{List, [], ◌∷◌}
 use mathlib.Core.Logic.{⊎_elim, ◌≢◌}
 use mathlib.Core.Path.{◌≡◌, refl, sym, ap, ◌∙◌}
 use native.Mathlib.Nat.{zero-mul, one-mul, add-mul, zero-div, div-one, div-eq_of_lt, mul-le-mul}
@@ -16,29 +14,20 @@ use native.Mathlib.Omega.{arith}
 use Rattle.mask.proofs.Lowest.{cleared_here, cleared_other}
 use Rattle.mask.proofs.Mask.{bit_above}
 use Rattle.mask.specs.Mask.{Others}
-use Rattle.model.proofs.Masks.{Labelled, labelled_nil, labelled_cons, label_first, label_rest, bit_of, bit_small, and_bit, below_only, only_below}
-use Rattle.model.proofs.Tests.{lt_or_le, eq_or_ne}
+use Rattle.model.proofs.Masks.{Labelled, label_first, label_rest, bit_of, bit_small, and_bit, below_only, only_below}
+use Rattle.model.proofs.Tests.{eq_or_ne}
 use Rattle.model.specs.Refusals.{sum_of_weights}
 use Rattle.model.specs.Runs.{Run, weighted_run, weighted, total, one, weight_of, bit, names, mask_bits}
+use Rattle.std.proofs.lemmas.List.Sums.{sum_by-cons}
+use Rattle.std.specs.List.{sum}
 use Rattle.weights.specs.Named.{weight_from, named_weight, Fewer}
 
 -- ---- the sum of a row
 
-sum_append : (a b : List ℕ) → sum_of_weights (a ++ b) ≡ sum_of_weights a + sum_of_weights b
+pub sum_is : (s : List ℕ) → sum s ≡ sum_of_weights s
 unfolding sum_of_weights
-sum_append [] b = omega arith
-sum_append (x ∷ a) b = let i = sum_append a b in omega arith
-
-pub sum_none : sum_of_weights [] ≡ 0
-unfolding sum_of_weights
-sum_none = refl
-
-pub sum_one_more : (s : List ℕ) (i : ℕ) → i < length s → sum_of_weights (take (suc i) s) ≡ sum_of_weights (take i s) + get_or s i 0
-unfolding sum_of_weights
-sum_one_more s i h =
-    let e = ap sum_of_weights (take-suc s i 0 h) in
-    let a = sum_append (take i s) (get_or s i 0 ∷ []) in
-    omega arith
+sum_is [] = refl
+sum_is (x ∷ s) = let i = sum_is s in omega (arith, sum_by-cons (λ (w : ℕ). w) x s)
 
 -- ---- a mask less a run that it names
 

@@ -15,13 +15,7 @@ pub fn sum(weights: &[u32]) -> usize
     requires { length weights.now ≤ most_runs }
     ensures { result ≡ sum_of_weights weights.now }
 {
-    let mut total: usize = 0;
-    let mut i: usize = 0;
-    while i < weights.len() {
-        total += arith::usize_of_u32(weights[i]);
-        i += 1;
-    }
-    total
+    weights.iter().map(|&weight| weight as usize).sum()
 }
 
 // What run `i` weighs: 1 where the row has no weights.
@@ -29,10 +23,10 @@ pub fn weight_at(weights: &[u32], i: usize) -> usize
     requires { HasWeight i weights.now }
     ensures { result ≡ get_or weights.now i 1 }
 {
-    if weights.len() == 0 {
+    if weights.is_empty() {
         return 1;
     }
-    arith::usize_of_u32(weights[i])
+    weights[i] as usize
 }
 
 // What the runs that the mask names weigh, each of which has a weight in the row.
@@ -42,10 +36,9 @@ pub fn named_weight(mask: u64, weights: &[u32]) -> usize
 {
     let mut total: usize = 0;
     let mut rest = mask;
-    while 0 < rest {
-        let run = mask::lowest_run(rest);
-        let i = arith::usize_of_u32(run);
-        total += arith::usize_of_u32(weights[i]);
+    while rest != 0 {
+        let run = mask::lowest_run(rest) as usize;
+        total += weights[run] as usize;
         rest = mask::without_lowest(rest);
     }
     total
@@ -56,8 +49,8 @@ pub fn weight_of(mask: u64, weights: &[u32]) -> usize
     requires { Weighs mask weights.now }
     ensures { result ≡ named_weight weights.now mask }
 {
-    if weights.len() == 0 {
-        return arith::usize_of_u32(mask::ones_of(mask));
+    if weights.is_empty() {
+        return mask::ones_of(mask) as usize;
     }
     named_weight(mask, weights)
 }
@@ -79,7 +72,7 @@ pub fn weight_among(mask: u64, all: u64, total: usize, weights: &[u32]) -> usize
     requires { Among mask all total weights.now }
     ensures { result ≡ named_weight weights.now mask }
 {
-    if 0 < weights.len() {
+    if !weights.is_empty() {
         let summed = fewer(mask, all);
         let weight = named_weight(summed, weights);
         if summed == mask {

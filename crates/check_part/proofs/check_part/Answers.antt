@@ -1,17 +1,6 @@
 -- `check_part` finds how much a gap's runs must weigh, and tests an answer or a gap. Assumes nothing.
-use native.Mathlib.Omega.{arith}
 use Rattle.check_part.proofs.Testing.{answer_last, gap_last, answer_checked, gap_checked}
-use borrow.Author.Rules.{rules}
 use Rattle.check_part.proofs.check_part.Goals as goal
-
-pub overflow_sub-few : goal.overflow_sub-few
-overflow_sub-few c =
-    let k = c.requires.1 in omega (arith, k.met, k.all)
-
-pub overflow_add-few : goal.overflow_add-few
-overflow_add-few c =
-    let k = c.requires.1 in
-    record { fits = omega (arith, k.some, k.met, k.all, c.ranges.total.fits) }
 
 pub tested-requires : goal.tested-requires
 tested-requires c =
@@ -24,11 +13,13 @@ tested-requires-in-Gap c =
 pub returns-in-Answer : goal.returns-in-Answer
 returns-in-Answer c =
     let a = c.args in
-    answer_checked a.numbers.now a.ends.now a.weights.now a.chosen a.bin c.in-Answer.value c.in-Answer.mask a.threshold a.total _ c.tested.result a.part c.in-Answer.is
-    c.requires.1 c.tested.ensures
+    rw c.in-Answer.is
+    (answer_checked a.numbers.now a.ends.now a.weights.now a.chosen a.bin c.in-Answer.value c.in-Answer.mask a.threshold a.total _ c.tested.result c.requires.1
+    c.tested.ensures)
 
 pub returns-in-Gap : goal.returns-in-Gap
 returns-in-Gap c =
     let a = c.args in
-    gap_checked a.numbers.now a.ends.now a.weights.now a.chosen a.bin c.in-Gap.first c.in-Gap.last c.in-Gap.mask a.threshold a.total _ c.tested-in-Gap.result a.part c.in-Gap.is
-    c.requires.1 c.tested-in-Gap.ensures
+    rw c.in-Gap.is
+    (gap_checked a.numbers.now a.ends.now a.weights.now a.chosen a.bin c.in-Gap.first c.in-Gap.last c.in-Gap.mask a.threshold a.total _ c.tested-in-Gap.result
+    c.requires.1 c.tested-in-Gap.ensures)

@@ -1,32 +1,34 @@
-use Prim.Native.Nat.{◌≤◌}
+use Prim.Native.Nat.{◌+◌}
 use borrow.Author.Rules.{rules}
-use lib.ListN.{length, drop}
-use mathlib.Core.Path.{◌≡◌, refl, ap, ◌∙◌}
+use lib.ListN.{length}
 use native.Mathlib.Omega.{arith}
-use Rattle.check_scan.specs.Scan.{reached_of}
-use Rattle.check_scan.proofs.Reaching.{bin_below, one_small, reached_end, reached_on, reached_fits}
+use Rattle.std.proofs.lemmas.List.{length_push}
+use Rattle.std.proofs.lemmas.Iterator.Adapters.{YieldsList-from_rev_slice}
+use Rattle.std.proofs.lemmas.Iterator.Consumers.{YieldsList-turn}
+use Rattle.check_scan.proofs.Reaching.{reached_start, reached_fits, reached_on}
 use Rattle.check_scan.proofs.reached.Goals as goal
 
-pub loop-i-init : goal.loop-i-init
-loop-i-init c =
-    (omega arith, reached_end c.args.last c.args.cursors.now)
+pub loop-cursor-init : goal.loop-cursor-init
+loop-cursor-init c =
+    reached_start c.args.last c.args.cursors.now
 
 pub overflow_mul-mask : goal.overflow_mul-mask
 overflow_mul-mask c =
-    let m = reached_fits c.args.last c.args.cursors.now c.loop-i.i c.loop-i.mask c.requires (omega arith) c.loop-i.invariant.1 in
-    omega arith
+    let l = c.loop-cursor in
+    let t = YieldsList-turn (YieldsList-from_rev_slice c.args.cursors.now cc) l.yielded _ l.yielded_by _ _ c.in-Some.field-0 c.in-Some.is c.next.ensures.steps in
+    let m = reached_fits c.args.last c.args.cursors.now (length l.yielded) l.mask c.in-Some.field-0.now l.invariant t c.requires in
+    search rules
 
 pub overflow_add-mask : goal.overflow_add-mask
 overflow_add-mask c =
-    let m = reached_fits c.args.last c.args.cursors.now c.loop-i.i c.loop-i.mask c.requires (omega arith) c.loop-i.invariant.1 in
-    let o = one_small _ c.one_if_below.result c.one_if_below.ensures in
-    omega arith
+    let l = c.loop-cursor in
+    let t = YieldsList-turn (YieldsList-from_rev_slice c.args.cursors.now cc) l.yielded _ l.yielded_by _ _ c.in-Some.field-0 c.in-Some.is c.next.ensures.steps in
+    let m = reached_fits c.args.last c.args.cursors.now (length l.yielded) l.mask c.in-Some.field-0.now l.invariant t c.requires in
+    search rules
 
-pub loop-i-preserved : goal.loop-i-preserved
-loop-i-preserved c =
-    (omega arith, reached_on c.args.last c.args.cursors.now c.loop-i.i c.loop-i.mask c.one_if_below.result (omega arith) c.loop-i.invariant.0 c.loop-i.invariant.1 (c.one_if_below.ensures ∙ bin_below _ c.args.last _ refl))
-
-pub returns : goal.returns
-returns c =
-    let z : c.loop-i.i ≡ 0 = omega arith in
-    c.loop-i.invariant.1 ∙ ap (λ x. reached_of c.args.last (drop x c.args.cursors.now)) z
+pub loop-cursor-preserved : goal.loop-cursor-preserved
+loop-cursor-preserved c =
+    let l = c.loop-cursor in
+    let t = YieldsList-turn (YieldsList-from_rev_slice c.args.cursors.now cc) l.yielded _ l.yielded_by _ _ c.in-Some.field-0 c.in-Some.is c.next.ensures.steps in
+    reached_on c.args.last c.args.cursors.now (length l.yielded) l.mask c.in-Some.field-0.now l.invariant t (c.from.result + 1) c.from-in-loop-cursor.result _ (omega arith)
+    c.from-in-loop-cursor.ensures (length_push l.yielded c.in-Some.field-0)

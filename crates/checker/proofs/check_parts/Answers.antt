@@ -1,95 +1,64 @@
-use Prim.Native.Nat.{◌-◌}
-use lib.ListN.{length}
-use mathlib.Core.Path.{◌≡◌, sym, ◌∙◌}
+use borrow.Author.Rules.{rules}
 use native.Mathlib.Omega.{arith}
-use Rattle.check_part.specs.Tested.{Choice}
 use Rattle.field_read.specs.Reading.{part_of}
 use Rattle.model.proofs.Encoding.{size_pos}
-use Rattle.checker.proofs.Following.{Along, along_start, along_unreadable, along_refused, along_on, next_is, answers_few, along_valid, along_uncovered}
-use borrow.Author.Rules.{rules}
+use Rattle.checker.proofs.Following.{along_start, along_unreadable, along_refused, along_on, next_is, answers_few, along_valid, along_uncovered}
 use Rattle.checker.proofs.check_parts.Goals as goal
 
 pub loop-at-init : goal.loop-at-init
 loop-at-init c =
     let a = c.args in
-    (along_start a.numbers.now a.ends.now a.weights.now a.mask a.threshold a.certificate.now a.cursors.now c.requires.0, c.requires.0.lengths, c.requires.1)
-
-pub shape_of-cursors-in_default : goal.shape_of-cursors-in_default
-shape_of-cursors-in_default c =
-    let kept : length c.loop-at.cursors ≡ length c.args.cursors.now =
-    c.loop-at.invariant.0.ready.lengths ∙ sym c.loop-at.invariant.1 in
-    kept
+    rw c.from-bin.ensures (along_start a.numbers.now a.ends.now a.weights.now a.mask a.threshold a.certificate.now a.cursors.now c.requires.0)
 
 pub returns-in_default : goal.returns-in_default
 returns-in_default c =
     let a = c.args in
-    c.refused.ensures
-    ∙ along_unreadable a.numbers.now a.ends.now a.weights.now a.mask a.threshold a.certificate.now c.loop-at.cursors c.loop-at.bin c.loop-at.at c.loop-at.answers c.loop-at.parts c.loop-at.invariant.0 (omega arith) c.read_field.result c.in_default.is c.read_field.ensures.reading
+    let l = c.loop-at in
+    along_unreadable a.numbers.now a.ends.now a.weights.now a.mask a.threshold a.certificate.now l.cursors l.bin l.at l.answers l.parts l.invariant
+    c.loop-at-test.true c.read_field.result c.read_field.ensures.reading c.in_default.field-0 c.in_default.is c.read_field.ensures.next
 
-pub check_part-number-requires : goal.check_part-number-requires
-check_part-number-requires c =
-    (c.loop-at.invariant.0.ready, c.loop-at.invariant.2)
-
-pub shape_of-cursors-then-number-ne0 : goal.shape_of-cursors-then-number-ne0
-shape_of-cursors-then-number-ne0 c =
-    let kept : length c.loop-at.cursors ≡ length c.args.cursors.now =
-    c.loop-at.invariant.0.ready.lengths ∙ sym c.loop-at.invariant.1 in
-    c.check_part-number.auto.cursors ∙ kept
-
-pub returns-then-number-ne0 : goal.returns-then-number-ne0
-returns-then-number-ne0 c =
+pub returns-in-Err : goal.returns-in-Err
+returns-in-Err c =
     let a = c.args in
-    c.refused-then-number-ne0.ensures
-    ∙ along_refused a.numbers.now a.ends.now a.weights.now a.mask a.threshold a.certificate.now c.loop-at.cursors c.loop-at.bin c.loop-at.at c.loop-at.answers c.loop-at.parts c.loop-at.invariant.0 (omega (arith, c.loop-at-test.true)) c.read_field.result c.in-Read.part c.in-Read.next c.in-Read.is c.read_field.ensures.reading _ c.check_part-number.result c.check_part-number.ensures c.if-number-ne0.true
+    let l = c.loop-at in
+    along_refused a.numbers.now a.ends.now a.weights.now a.mask a.threshold a.certificate.now l.cursors l.bin l.at l.answers l.parts l.invariant
+    c.loop-at-test.true c.read_field.result c.read_field.ensures.reading c.in-Ok.field-0 c.in-Ok.is c.check_part.new.cursors c.in-Err.reason c.in-Err.ensures
 
 pub overflow_add-answers : goal.overflow_add-answers
 overflow_add-answers c =
-    let w = answers_few (part_of c.in-Read.part) in
-    let e = c.answers_in-answers.ensures in
-    let f = c.loop-at.invariant.0.few in
-    let s = c.loop-at.invariant.0.slow in
-    let d = c.well_formed in
-    omega (arith, e, c.loop-at-test.true)
-
-pub overflow_add-parts : goal.overflow_add-parts
-overflow_add-parts c =
-    let s = c.loop-at.invariant.0.slow in
-    omega (arith, s)
+    let w = answers_few (part_of c.in-Ok.field-0.part) in
+    let f = c.loop-at.invariant.few in
+    let s = c.loop-at.invariant.slow in
+    search rules
 
 pub loop-at-smaller : goal.loop-at-smaller
 loop-at-smaller c =
     let a = c.args in
-    let e = next_is a.numbers.now a.ends.now a.weights.now a.mask a.threshold a.certificate.now c.loop-at.cursors c.loop-at.bin c.loop-at.at c.loop-at.answers c.loop-at.parts c.loop-at.invariant.0 c.read_field.result c.in-Read.part c.in-Read.next c.in-Read.is c.read_field.ensures.next in
-    let s = size_pos (part_of c.in-Read.part) in
-    omega (arith, e, s)
+    let l = c.loop-at in
+    let f = c.in-Ok.field-0 in
+    let e = next_is a.numbers.now a.ends.now a.weights.now a.mask a.threshold a.certificate.now l.cursors l.bin l.at l.answers l.parts l.invariant c.loop-at-test.true
+    c.read_field.result c.read_field.ensures.reading f c.in-Ok.is c.read_field.ensures.next in
+    let s = size_pos (part_of f.part) in
+    omega arith
 
 pub loop-at-preserved : goal.loop-at-preserved
 loop-at-preserved c =
-    let a = c.args in (
-      along_on a.numbers.now a.ends.now a.weights.now a.mask a.threshold a.certificate.now c.loop-at.cursors c.loop-at.bin c.loop-at.at c.loop-at.answers c.loop-at.parts c.loop-at.invariant.0 (omega arith) c.read_field.result c.in-Read.part c.in-Read.next c.in-Read.is c.read_field.ensures.reading c.read_field.ensures.next c.check_part-number.new.cursors c.check_part-number.result c.check_part-number.ensures c.if-number-ne0.false c.past-bin.result c.answers_in-answers.result c.past-bin.ensures c.answers_in-answers.ensures,
-      c.loop-at.invariant.1,
-      c.loop-at.invariant.2,
-    )
-
-pub shape_of-cursors-then-bin-eq-PAST_BIN : goal.shape_of-cursors-then-bin-eq-PAST_BIN
-shape_of-cursors-then-bin-eq-PAST_BIN c =
-    let kept : length c.loop-at.cursors ≡ length c.args.cursors.now =
-    c.loop-at.invariant.0.ready.lengths ∙ sym c.loop-at.invariant.1 in
-    kept
-
-pub returns-then-bin-eq-PAST_BIN : goal.returns-then-bin-eq-PAST_BIN
-returns-then-bin-eq-PAST_BIN c =
     let a = c.args in
-    along_valid a.numbers.now a.ends.now a.weights.now a.mask a.threshold a.certificate.now c.loop-at.cursors c.loop-at.bin c.loop-at.at c.loop-at.answers c.loop-at.parts c.loop-at.invariant.0 (omega arith) c.if-bin-eq-PAST_BIN.true
+    let l = c.loop-at in
+    along_on a.numbers.now a.ends.now a.weights.now a.mask a.threshold a.certificate.now l.cursors l.bin l.at l.answers l.parts l.invariant c.loop-at-test.true
+    c.read_field.result c.read_field.ensures.reading c.in-Ok.field-0 c.in-Ok.is c.read_field.ensures.next c.check_part.new.cursors tt
+    (search rules) c.past-bin.result c.answers_in-answers.result c.past-bin.ensures c.answers_in-answers.ensures
 
-pub shape_of-cursors : goal.shape_of-cursors
-shape_of-cursors c =
-    let kept : length c.loop-at.cursors ≡ length c.args.cursors.now =
-    c.loop-at.invariant.0.ready.lengths ∙ sym c.loop-at.invariant.1 in
-    kept
+pub returns-then-bin-ne-PAST_BIN : goal.returns-then-bin-ne-PAST_BIN
+returns-then-bin-ne-PAST_BIN c =
+    let a = c.args in
+    let l = c.loop-at in
+    along_uncovered a.numbers.now a.ends.now a.weights.now a.mask a.threshold a.certificate.now l.cursors l.bin l.at l.answers l.parts l.invariant
+    c.loop-at-test.false c.if-bin-ne-PAST_BIN.true
 
 pub returns : goal.returns
 returns c =
     let a = c.args in
-    c.refused-2.ensures
-    ∙ along_uncovered a.numbers.now a.ends.now a.weights.now a.mask a.threshold a.certificate.now c.loop-at.cursors c.loop-at.bin c.loop-at.at c.loop-at.answers c.loop-at.parts c.loop-at.invariant.0 (omega arith) c.if-bin-eq-PAST_BIN.false
+    let l = c.loop-at in
+    along_valid a.numbers.now a.ends.now a.weights.now a.mask a.threshold a.certificate.now l.cursors l.bin l.at l.answers l.parts l.invariant
+    c.loop-at-test.false c.if-bin-ne-PAST_BIN.false

@@ -1,12 +1,13 @@
 -- `past` gives the bin after a part. Assumes nothing.
-use Rattle.checker.proofs.Counts.{past_answer, past_gap}
-use borrow.Author.Rules.{rules}
+use native.Mathlib.Numerals.{add-one}
+use Rattle.field_read.specs.Reading.{part_of}
+use Rattle.model.specs.Certificate.{last_of}
 use Rattle.checker.proofs.past.Goals as goal
 
 pub returns-in-Answer : goal.returns-in-Answer
-returns-in-Answer c =
-    past_answer c.in-Answer.value c.in-Answer.mask c.args.part c.in-Answer.is
+unfolding part_of last_of
+returns-in-Answer c = rw (c.in-Answer.is, c.from.ensures) (add-one c.in-Answer.value)
 
 pub returns-in-Gap : goal.returns-in-Gap
-returns-in-Gap c =
-    past_gap c.in-Gap.first c.in-Gap.last c.in-Gap.mask c.args.part c.in-Gap.is
+unfolding part_of last_of
+returns-in-Gap c = rw (c.in-Gap.is, c.from-in-Gap.ensures) (add-one c.in-Gap.last)

@@ -1,10 +1,7 @@
--- `read_u64` meets its contract: the low half and 256 to the power 4 times the high half.
--- Assumes nothing.
-use borrow.Author.Rules.{rules}
-use native.Mathlib.Omega.{arith}
-use Rattle.field_read.proofs.Reading.{number_halves}
+-- `read_u64` meets its contract: its bytes' worths add up to the number. Assumes nothing.
+use Rattle.std.proofs.Common.{arith}
+use Rattle.field_read.proofs.Reading.{number_eight}
 use Rattle.field_read.proofs.read_u64.Goals as goal
 
 pub returns : goal.returns
-returns c =
-    let a = c.args in omega (arith, number_halves a.certificate.now a.at 4 4 (omega arith))
+returns c = omega (arith, c.from_le_bytes.ensures, number_eight c.args.bytes.now c.args.at c.requires)

@@ -1,24 +1,27 @@
--- `write_gap` meets its contract: where the field fits, its head, first, last and mask are placed one after another.
--- Assumes nothing.
-use borrow.Author.Rules.{rules}
-use mathlib.Core.Path.{sym}
-use native.Mathlib.Omega.{arith}
-use Rattle.model.specs.Certificate.{gap, size_of}
+-- `write_gap` meets its contract: where the field fits, its head, bins and mask are placed one after another. Assumes nothing.
+use Rattle.std.proofs.Common.{arith, sym, ap, ◌∙◌, List, ℕ, ◌+◌}
+use Rattle.model.specs.Certificate.{gap, size_of, bytes_of}
+use Rattle.field_write.specs.Stored.{placed}
+use Rattle.field_write.proofs.Bytes.{le_bytes}
 use Rattle.field_write.proofs.Stored.{stored_full, result_fits, result_full, gap_stored}
 use Rattle.field_write.proofs.write_gap.Goals as goal
 
-pub returns-then-left-lt19 : goal.returns-then-left-lt19
-unfolding size_of
-returns-then-left-lt19 c =
+pub returns-then-saturating_sub-lt-GAP_BYTES : goal.returns-then-saturating_sub-lt-GAP_BYTES
+unfolding size_of bytes_of
+returns-then-saturating_sub-lt-GAP_BYTES c =
     let a = c.args in
     record { bytes = sym (stored_full a.certificate.now a.at (gap a.first a.last a.mask) (omega arith)); result = sym (result_full a.certificate.now a.at (gap a.first a.last a.mask) (omega arith)) }
 
 pub returns : goal.returns
-unfolding size_of
+unfolding size_of bytes_of
 returns c =
     let a = c.args in
+    let p = λ (at : ℕ) (l : List ℕ) (bytes : List ℕ). placed l at bytes in
     record {
-      bytes = gap_stored a.certificate.now a.at a.first a.last a.mask c.write_head.ensures c.write_u32.ensures c.write_u32-2.ensures
-          c.write_u64.ensures (omega arith);
+      bytes =
+          gap_stored a.certificate.now a.at a.first a.last a.mask c.write_bytes.ensures
+          (c.write_bytes-2.ensures ∙ ap (p (a.at + 3) c.write_bytes.new.certificate) (c.to_le_bytes.ensures ∙ le_bytes 4 a.first))
+          (c.write_bytes-3.ensures ∙ ap (p (a.at + 7) c.write_bytes-2.new.certificate) (c.to_le_bytes-2.ensures ∙ le_bytes 4 a.last))
+          (c.write_bytes-4.ensures ∙ ap (p (a.at + 11) c.write_bytes-3.new.certificate) (c.to_le_bytes-3.ensures ∙ le_bytes 8 a.mask)) (omega arith);
       result = sym (result_fits a.certificate.now a.at (gap a.first a.last a.mask) (omega arith));
     }

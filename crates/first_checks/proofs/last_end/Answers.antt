@@ -1,32 +1,22 @@
 -- `last_end` gives the last end. Assumes nothing.
-use Prim.Native.Nat.{ℕ, suc, ◌-◌, ◌<◌}
-use lib.ListN.{length, get_or}
-use mathlib.Core.List.{List, [], ◌∷◌}
-use mathlib.Core.Path.{◌≡◌, refl, sym, ◌∙◌}
-use native.Mathlib.Omega.{arith}
+use Rattle.std.proofs.Common.{◌≡◌, ℕ, suc, ◌-◌, ◌<◌, ◌≤◌, List, [], ◌∷◌, length, get_or, Option, None, Some, MatchOption, Bor, refl, sym, ◌∙◌, arith, rules}
+use Rattle.std.specs.List.{HoldsAt}
 use Rattle.model.specs.Refusals.{last_end}
-use borrow.Author.Rules.{rules}
 use Rattle.first_checks.proofs.last_end.Goals as goal
 
-none_last : (ends : List ℕ) → length ends ≡ 0 → last_end 0 ends ≡ 0
+at_last : (b x : ℕ) (ends : List ℕ) → last_end b (x ∷ ends) ≡ get_or (x ∷ ends) (length ends) 0
 unfolding last_end
-none_last [] e = refl
-none_last (x ∷ ends) e = absurd (omega arith)
+at_last b x [] = refl
+at_last b x (y ∷ ends) = at_last x y ends
 
-at_last : (b : ℕ) (ends : List ℕ) → 0 < length ends → last_end b ends ≡ get_or ends (length ends - 1) 0
+last : (ends : List ℕ) (found : Option (Bor ℕ)) (r : ℕ)
+    → MatchOption found (length ends ≤ 0) (λ x. (0 < length ends) × HoldsAt (λ y. x.now ≡ y) ends (length ends - 1))
+    → MatchOption found (r ≡ 0) (λ x. r ≡ x.now) → r ≡ last_end 0 ends
 unfolding last_end
-at_last b [] h = absurd (omega arith)
-at_last b (x ∷ []) h = refl
-at_last b (x ∷ (y ∷ ends)) h =
-    let j : suc (length ends) - 1 ≡ length ends = omega arith in
-    let k : suc (suc (length ends)) - 1 ≡ suc (length ends) = omega arith in
-    rw k (at_last x (y ∷ ends) (omega arith) ∙ rw j)
-
-pub returns-then-k-eq0 : goal.returns-then-k-eq0
-returns-then-k-eq0 c =
-    sym (none_last c.args.ends.now c.if-k-eq0.true)
+last [] None r h e = e
+last (x ∷ ends) None r h e = absurd (omega arith)
+last [] (Some x) r h e = absurd (let k = h.0 in omega arith)
+last (x ∷ ends) (Some y) r h e = let n : suc (length ends) - 1 ≡ length ends = omega arith in e ∙ ((rw n at (h.1 0)) ∙ sym (at_last 0 x ends))
 
 pub returns : goal.returns
-returns c =
-    let a = c.args in
-    c.usize_of_u32.ensures ∙ sym (at_last 0 a.ends.now (omega arith))
+returns c = last c.args.ends.now c.last.result c.map_or.result c.last.ensures.item.3 (search rules)

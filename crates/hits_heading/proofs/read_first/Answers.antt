@@ -1,64 +1,61 @@
 -- `read_first` gives the two numbers of line 1. Assumes nothing.
-use Prim.Native.Nat.{ℕ, ◌+◌, ◌-◌}
-use borrow.Author.Rules.{rules}
-use lib.ListN.{length, take, drop}
-use mathlib.Core.Option.{Option}
-use mathlib.Core.Path.{◌≡◌, refl, sym, ap, ◌∙◌}
-use native.Mathlib.Omega.{arith}
-use Rattle.hits_input.specs.Input.{pair, heading_of}
-use Rattle.text_read.specs.Numbers.{number, word_is}
-use Rattle.hits_heading.proofs.Headings.{heading_one, space_inside, next_inside, heading_more, heading_two}
+use Rattle.std.proofs.Common.{◌≡◌, ℕ, Bool, true, false, not, Option, Some, None, Bor, List, [], ◌∷◌, refl, sym, ap, ◌∙◌, rules, tests}
+use Rattle.std.specs.Option.{is_some}
+use Rattle.std.specs.Bool.{then_some}
+use Rattle.hits_input.specs.Input.{Heading, heading, no_heading, heading_of}
+use Rattle.text_read.proofs.Splits.{piece_given, pieces_given}
+use Rattle.hits_heading.specs.Heading.{heading_is}
+use Rattle.hits_heading.specs.declared.Heading.{Heading as Numbers}
+use Rattle.hits_heading.proofs.Headings.{no_number, no_next, no_second, both_numbers, third_word}
 use Rattle.hits_heading.proofs.read_first.Goals as goal
 
-pub returns-then-end-line : goal.returns-then-end-line
-returns-then-end-line c =
-    let a = c.args in
-    sym (heading_one a.line.now (sym c.first_of-end.ensures ∙ c.if-end-line.true))
+pub returns-in_err-read_word : goal.returns-in_err-read_word
+unfolding heading_of
+returns-in_err-read_word c =
+    let e = piece_given _ c.split-words.result 32 c.args.line.now c.split-words.ensures.rest c.split-words.ensures.done c.split-words.ensures.closure
+    (λ x b q k. search (rules, tests)) [] _ _ refl _ c.next.ensures.steps c.in_ok-next.field-0 c.in_ok-next.was in
+    ap heading_is c.from_residual-in_err-read_word.ensures ∙ sym (no_number e (sym c.in_err-read_word.ensures))
 
-pub overflow_add-next : goal.overflow_add-next
-overflow_add-next c =
-    let a = c.args in
-    let h = space_inside a.line.now _ c.first_of-end.ensures c.if-end-line.false in
-    omega (arith, h)
+pub returns-in_err-next-2 : goal.returns-in_err-next-2
+unfolding heading_of
+returns-in_err-next-2 c =
+    let e = piece_given _ c.split-words.result 32 c.args.line.now c.split-words.ensures.rest c.split-words.ensures.done c.split-words.ensures.closure
+    (λ x b q k. search (rules, tests)) [] _ _ refl _ c.next.ensures.steps c.in_ok-next.field-0 c.in_ok-next.was in
+    let f = pieces_given _ c.split-words.result 32 c.args.line.now c.split-words.ensures.rest c.split-words.ensures.done c.split-words.ensures.closure
+    (λ x b q k. search (rules, tests)) (c.in_ok-next.field-0 ∷ []) _ _ (_, c.in_ok-next.ensures.steps, refl) _ c.next-2.ensures.steps c.in_err-next-2.was in
+    ap heading_is c.from_residual-in_err-next-2.ensures ∙ sym (no_next e f)
 
-pub slice_bounds-first_of-count : goal.slice_bounds-first_of-count
-slice_bounds-first_of-count c =
-    let a = c.args in
-    let h = space_inside a.line.now _ c.first_of-end.ensures c.if-end-line.false in
-    omega (arith, h)
+pub returns-in_err-read_word-2 : goal.returns-in_err-read_word-2
+unfolding heading_of
+returns-in_err-read_word-2 c =
+    let e = piece_given _ c.split-words.result 32 c.args.line.now c.split-words.ensures.rest c.split-words.ensures.done c.split-words.ensures.closure
+    (λ x b q k. search (rules, tests)) [] _ _ refl _ c.next.ensures.steps c.in_ok-next.field-0 c.in_ok-next.was in
+    let f = piece_given _ c.split-words.result 32 c.args.line.now c.split-words.ensures.rest c.split-words.ensures.done c.split-words.ensures.closure
+    (λ x b q k. search (rules, tests)) (c.in_ok-next.field-0 ∷ []) _ _ (_, c.in_ok-next.ensures.steps, refl) _ c.next-2.ensures.steps
+    c.in_ok-next-2.field-0 c.in_ok-next-2.was in
+    ap heading_is c.from_residual-in_err-read_word-2.ensures ∙ sym (no_second e (sym c.in_ok-read_word.ensures) f (sym c.in_err-read_word-2.ensures))
 
-pub slice_bounds-first_of-start : goal.slice_bounds-first_of-start
-slice_bounds-first_of-start c =
-    let a = c.args in
-    let h = space_inside a.line.now _ c.first_of-end.ensures c.if-end-line.false in
-    omega (arith, h)
-
-pub overflow_add-next-2 : goal.overflow_add-next-2
-overflow_add-next-2 c =
-    let a = c.args in
-    let h = next_inside a.line.now _ c.first_of-end.ensures c.if-end-line.false _ c.first_of.ensures in
-    omega (arith, h)
-
-pub returns-then-next-first_of : goal.returns-then-next-first_of
-returns-then-next-first_of c =
-    let a = c.args in
-    sym (heading_more a.line.now _ c.first_of-end.ensures c.if-end-line.false _ c.first_of.ensures c.if-next-first_of.true)
-
-pub returns-in_default : goal.returns-in_default
-unfolding pair
-returns-in_default c =
-    sym (heading_two c.args.line.now _ c.first_of-end.ensures c.if-end-line.false _ c.first_of.ensures c.if-next-first_of.false (sym c.read_word.ensures ∙ ap word_is c.in_default.is) refl)
-
-pub returns-in_default-read_word : goal.returns-in_default-read_word
-unfolding pair
-returns-in_default-read_word c =
-    sym
-    (heading_two c.args.line.now _ c.first_of-end.ensures c.if-end-line.false _ c.first_of.ensures c.if-next-first_of.false (sym c.read_word.ensures ∙ ap word_is c.in-Number.is)
-    (sym c.read_word-2.ensures ∙ ap word_is c.in_default-read_word.is))
+-- the numbers, if no word follows
+lone : (h : Numbers) (first : Heading) (r : Option (Bor (List ℕ))) (b : Bool) → is_some r ≡ not b → (r ≡ None → first ≡ heading h.threshold h.allowance)
+    → ((word : Bor (List ℕ)) → r ≡ Some word → first ≡ no_heading) → heading_is (then_some b h) ≡ first
+lone h first None true e f g = sym (f refl)
+lone h first None false e f g = cc
+lone h first (Some word) true e f g = cc
+lone h first (Some word) false e f g = sym (g word refl)
 
 pub returns : goal.returns
-unfolding pair
+unfolding heading_of
 returns c =
-    sym
-    (heading_two c.args.line.now _ c.first_of-end.ensures c.if-end-line.false _ c.first_of.ensures c.if-next-first_of.false (sym c.read_word.ensures ∙ ap word_is c.in-Number.is)
-    (sym c.read_word-2.ensures ∙ ap word_is c.in-Number-read_word.is))
+    let e = piece_given _ c.split-words.result 32 c.args.line.now c.split-words.ensures.rest c.split-words.ensures.done c.split-words.ensures.closure
+    (λ x b q k. search (rules, tests)) [] _ _ refl _ c.next.ensures.steps c.in_ok-next.field-0 c.in_ok-next.was in
+    let f = piece_given _ c.split-words.result 32 c.args.line.now c.split-words.ensures.rest c.split-words.ensures.done c.split-words.ensures.closure
+    (λ x b q k. search (rules, tests)) (c.in_ok-next.field-0 ∷ []) _ _ (_, c.in_ok-next.ensures.steps, refl) _ c.next-2.ensures.steps
+    c.in_ok-next-2.field-0 c.in_ok-next-2.was in
+    ap heading_is c.then_some.ensures
+    ∙ lone _ _ c.next-3.result c.is_none.result c.is_none.ensures
+    (λ n. both_numbers e (sym c.in_ok-read_word.ensures) f (sym c.in_ok-read_word-2.ensures) (pieces_given _ c.split-words.result 32 c.args.line.now c.split-words.ensures.rest c.split-words.ensures.done c.split-words.ensures.closure
+    (λ x b q k. search (rules, tests)) (c.in_ok-next.field-0 ∷ c.in_ok-next-2.field-0 ∷ []) _ _
+    (c.next.new.self, c.in_ok-next.ensures.steps, (_, c.in_ok-next-2.ensures.steps, refl)) _ c.next-3.ensures.steps n))
+    (λ word n. third_word e (sym c.in_ok-read_word.ensures) f (piece_given _ c.split-words.result 32 c.args.line.now c.split-words.ensures.rest c.split-words.ensures.done c.split-words.ensures.closure
+    (λ x b q k. search (rules, tests)) (c.in_ok-next.field-0 ∷ c.in_ok-next-2.field-0 ∷ []) _ _
+    (c.next.new.self, c.in_ok-next.ensures.steps, (_, c.in_ok-next-2.ensures.steps, refl)) _ c.next-3.ensures.steps word n))

@@ -1,10 +1,9 @@
-use Prim.Native.Nat.{◌+◌, ◌-◌, ◌<◌}
-use borrow.Author.Rules.{rules}
+use Prim.Native.Nat.{◌+◌, ◌<◌}
 use lib.ListN.{length}
 use native.Mathlib.Omega.{arith}
 use Rattle.hits_limits.specs.Limits.{most_bytes}
 use Rattle.text_read.proofs.Pieces.{piece_ends}
-use Rattle.hits_lines.proofs.Writing.{Writing, writing_start, writing_end, writing_inside, writing_room, writing_more, writing_few, writing_on}
+use Rattle.hits_lines.proofs.Writing.{writing_start, writing_end, writing_inside, writing_room, writing_more, writing_few, writing_on}
 use Rattle.hits_lines.proofs.write_lines.Goals as goal
 
 pub loop-at-init : goal.loop-at-init

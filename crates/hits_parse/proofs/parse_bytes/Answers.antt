@@ -1,14 +1,8 @@
 -- `parse_bytes` parses at most as many bytes as the limit. Assumes nothing.
-use Prim.Native.Nat.{◌+◌, ◌-◌}
-use borrow.Author.Rules.{rules}
-use lib.ListN.{length, take}
-use mathlib.Core.Path.{◌≡◌, sym, ap, ◌∙◌, subst}
-use native.Mathlib.Omega.{arith}
-use Rattle.hits_input.specs.Input.{heading, heading_of}
+use Rattle.std.proofs.Common.{◌≡◌, Some, None, length-take, sym, ap, ◌∙◌, arith}
+use Rattle.std.proofs.lemmas.Result.{err_from_is_err_and}
 use Rattle.hits_heading.specs.Heading.{heading_is}
-use Rattle.hits_lines.specs.Lines.{scanned, Within, lines_at}
-use Rattle.hits_lines.specs.declared.Scan.TheVariants.{Runs}
-use Rattle.hits_parse.proofs.Parsing.{no_end, line_inside, no_heading_law, line_fault, more_refused, readable, stored, within_runs}
+use Rattle.hits_parse.proofs.Parsing.{no_end, line_inside, no_heading_law, line_fault, more_refused, readable, stored}
 use Rattle.hits_parse.proofs.parse_bytes.Goals as goal
 
 pub returns-then-end-bytes : goal.returns-then-end-bytes
@@ -20,12 +14,15 @@ pub slice_bounds-read_first-end : goal.slice_bounds-read_first-end
 slice_bounds-read_first-end c =
     let a = c.args in
     let h = line_inside a.more a.bytes.now a.numbers.now a.ends.now c.first_of-end.result c.first_of-end.ensures c.if-end-bytes.false in
-    omega (arith, h)
+    omega (arith, h, length-take c.first_of-end.result a.bytes.now)
 
-pub returns-in_default : goal.returns-in_default
-returns-in_default c =
+pub returns-in_err-heading : goal.returns-in_err-heading
+returns-in_err-heading c =
     let a = c.args in
-    no_heading_law a.more a.bytes.now a.numbers.now a.ends.now c.first_of-end.result c.first_of-end.ensures c.if-end-bytes.false (sym c.read_first.ensures ∙ ap heading_is c.in_default.is)
+    let q : (c.read_first.result ≡ None) × (c.in_err-heading.field-0.0 ≡ record { 0 = 1 }) = let h = c.in_err-heading.ensures.value in (grind arith, grind arith) in
+    let p = err_from_is_err_and c.from_residual.result c.from_residual.ensures.1 in
+    rw (p.1, p.2, q.1)
+    (no_heading_law a.more a.bytes.now a.numbers.now a.ends.now c.first_of-end.result c.first_of-end.ensures c.if-end-bytes.false (sym c.read_first.ensures ∙ ap heading_is q.0))
 
 pub overflow_add-start : goal.overflow_add-start
 overflow_add-start c =
@@ -39,49 +36,32 @@ scan_lines-requires c =
     let h = line_inside a.more a.bytes.now a.numbers.now a.ends.now c.first_of-end.result c.first_of-end.ensures c.if-end-bytes.false in
     (omega (arith, h), c.requires)
 
-pub overflow_add-result : goal.overflow_add-result
-overflow_add-result c =
-    let scan_fits : (let a = c.args in
-    Within (length a.ends.now) (length a.numbers.now) (Runs c.in-Runs.runs c.in-Runs.count)) =
-    subst (Within _ _) c.in-Runs.is c.scan_lines.ensures.1 in
-    let h = within_runs (scan_fits) in omega (arith, h)
+pub returns-in_err-counts : goal.returns-in_err-counts
+returns-in_err-counts c =
+    let a = c.args in
+    let o : c.read_first.result ≡ Some c.in_ok-heading.heading = let h = c.in_ok-heading.ensures.value in grind arith in
+    let p = err_from_is_err_and c.from_residual-in_err-counts.result c.from_residual-in_err-counts.ensures.1 in
+    rw (p.1, p.2)
+    (line_fault a.more a.bytes.now a.numbers.now a.ends.now c.first_of-end.result c.first_of-end.ensures c.if-end-bytes.false
+    (sym c.read_first.ensures ∙ ap heading_is o) c.in_err-counts.ensures.0)
 
 pub returns-then-more : goal.returns-then-more
 returns-then-more c =
-    let heading_is : (heading_of (take (c.first_of-end.result - 0) c.args.bytes.now) ≡ heading c.in-Pair.threshold c.in-Pair.allowance) =
-    sym c.read_first.ensures ∙ ap heading_is c.in-Pair.is in
-    let scan_is : (let a = c.args in
-    Runs c.in-Runs.runs c.in-Runs.count ≡ scanned 0 0 (lines_at (length a.ends.now) (length a.numbers.now) a.bytes.now (c.first_of-end.result + 1))) =
-    sym c.in-Runs.is ∙ c.scan_lines.ensures.0 in
     let a = c.args in
-    more_refused a.more a.bytes.now a.numbers.now a.ends.now c.first_of-end.result c.first_of-end.ensures c.if-end-bytes.false (heading_is) (scan_is) c.if-more.true
+    let o : c.read_first.result ≡ Some c.in_ok-heading.heading = let h = c.in_ok-heading.ensures.value in grind arith in
+    more_refused a.more a.bytes.now a.numbers.now a.ends.now c.first_of-end.result c.first_of-end.ensures c.if-end-bytes.false
+    (sym c.read_first.ensures ∙ ap heading_is o) c.in_ok-counts.ensures.0 c.if-more.true
 
 pub write_lines-requires : goal.write_lines-requires
 write_lines-requires c =
-    let heading_is : (heading_of (take (c.first_of-end.result - 0) c.args.bytes.now) ≡ heading c.in-Pair.threshold c.in-Pair.allowance) =
-    sym c.read_first.ensures ∙ ap heading_is c.in-Pair.is in
-    let scan_is : (let a = c.args in
-    Runs c.in-Runs.runs c.in-Runs.count ≡ scanned 0 0 (lines_at (length a.ends.now) (length a.numbers.now) a.bytes.now (c.first_of-end.result + 1))) =
-    sym c.in-Runs.is ∙ c.scan_lines.ensures.0 in
     let a = c.args in
-    readable a.more a.bytes.now a.numbers.now a.ends.now c.first_of-end.result c.first_of-end.ensures c.if-end-bytes.false (heading_is) (scan_is) c.requires
+    let o : c.read_first.result ≡ Some c.in_ok-heading.heading = let h = c.in_ok-heading.ensures.value in grind arith in
+    readable a.more a.bytes.now a.numbers.now a.ends.now c.first_of-end.result c.first_of-end.ensures c.if-end-bytes.false
+    (sym c.read_first.ensures ∙ ap heading_is o) c.in_ok-counts.ensures.0 c.requires
 
-pub returns-in-Fault : goal.returns-in-Fault
-returns-in-Fault c =
-    let heading_is : (heading_of (take (c.first_of-end.result - 0) c.args.bytes.now) ≡ heading c.in-Pair.threshold c.in-Pair.allowance) =
-    sym c.read_first.ensures ∙ ap heading_is c.in-Pair.is in
+pub returns : goal.returns
+returns c =
     let a = c.args in
-    line_fault a.more a.bytes.now a.numbers.now a.ends.now c.first_of-end.result c.first_of-end.ensures c.if-end-bytes.false (heading_is) (sym c.in-Fault.is ∙ c.scan_lines.ensures.0)
-
-pub returns-else-more : goal.returns-else-more
-returns-else-more c =
-    let heading_is : (heading_of (take (c.first_of-end.result - 0) c.args.bytes.now) ≡ heading c.in-Pair.threshold c.in-Pair.allowance) =
-    sym c.read_first.ensures ∙ ap heading_is c.in-Pair.is in
-    let scan_is : (let a = c.args in
-    Runs c.in-Runs.runs c.in-Runs.count ≡ scanned 0 0 (lines_at (length a.ends.now) (length a.numbers.now) a.bytes.now (c.first_of-end.result + 1))) =
-    sym c.in-Runs.is ∙ c.scan_lines.ensures.0 in
-    let scan_fits : (let a = c.args in
-    Within (length a.ends.now) (length a.numbers.now) (Runs c.in-Runs.runs c.in-Runs.count)) =
-    subst (Within _ _) c.in-Runs.is c.scan_lines.ensures.1 in
-    let a = c.args in
-    stored a.more a.bytes.now a.numbers.now a.ends.now c.first_of-end.result c.first_of-end.ensures c.if-end-bytes.false (heading_is) (scan_is) c.if-more.false (scan_fits) c.write_lines.ensures
+    let o : c.read_first.result ≡ Some c.in_ok-heading.heading = let h = c.in_ok-heading.ensures.value in grind arith in
+    stored a.more a.bytes.now a.numbers.now a.ends.now c.first_of-end.result c.first_of-end.ensures c.if-end-bytes.false
+    (sym c.read_first.ensures ∙ ap heading_is o) c.in_ok-counts.ensures.0 c.if-more.false c.in_ok-counts.ensures.1 c.write_lines.ensures

@@ -1,12 +1,6 @@
 -- `read_input` counts bytes within the buffer, and ends. The loop's invariant: the size is at most the buffer's length, which stays as it is. The
 -- measure is the room and the tries that are left: a read with bytes takes from the first, an interruption from the second. Assumes nothing.
-use Prim.Native.Nat.{◌+◌, ◌-◌, ◌^◌, ◌≤◌, ◌<◌}
-use borrow.Author.Rules.{rules}
-use lib.ListN.{length, take, drop, length-take, length-drop}
-use mathlib.Core.Path.{◌≡◌, sym, ◌∙◌, subst}
-use native.Mathlib.Omega.{arith}
-use Rattle.hits_read.specs.Reading.{step_after, Within}
-use Rattle.hits_read.proofs.Readings.{within_more, Goes, goes_on, over_size}
+use Rattle.std.proofs.Common.{◌≡◌, ◌+◌, ◌-◌, ◌≤◌, length}
 use Rattle.hits_read.proofs.read_input.Given as goal
 
 abbrev pub invariant-loop-size : goal.invariant-loop-size

@@ -1,13 +1,14 @@
--- `refuse` lays its line from the front on. Assumes nothing.
-use borrow.Author.Rules.{rules}
-use Rattle.hits_render.proofs.Fitting.{shows_laid}
-use Rattle.hits_render.proofs.Texts.{refuse_laid, refuse_whole}
+-- `refuse` shows its line. Assumes nothing.
+use Rattle.std.proofs.Common.{length, ap, ◌∙◌, arith}
+use Rattle.std.specs.Prelude.{Some}
+use Rattle.hits_render.proofs.Fitting.{shows_laid, shown_whole}
+use Rattle.hits_render.specs.Text.{refuse_line}
 use Rattle.hits_render.proofs.refuse.Goals as goal
 
-pub returns : goal.returns
-returns c =
-    let a = c.args in
-    let s = shows_laid
-    (refuse_laid a.number a.place c.u64_of_u8.ensures c.u64_of_usize.ensures c.put_two-end.ensures)
-    c.shown.ensures in
-    record { shows = s; enough = refuse_whole a.number a.place c.ranges.number.fits c.ranges.place.fits s }
+pub returns-clause-shows : goal.returns-clause-shows
+returns-clause-shows c = rw c.from.ensures at (shows_laid c.put_refuse-end.ensures.laid c.shown.ensures)
+
+pub returns-clause-enough : goal.returns-clause-enough
+returns-clause-enough c =
+    let s = shows_laid c.put_refuse-end.ensures.laid c.shown.ensures in
+    λ h. shown_whole s (omega (arith, c.put_refuse-end.ensures.room)) ∙ ap (λ n. Some (length (refuse_line n c.args.refusal.place))) c.from.ensures

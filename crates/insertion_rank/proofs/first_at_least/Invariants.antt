@@ -1,10 +1,6 @@
 -- `first_at_least` meets its contract. The loop's invariant: the rank lies between lo and hi, and hi within the list. The measure, hi - lo, falls,
 -- since the middle is at least lo and below hi. Assumes nothing.
-use Prim.Native.Nat.{◌+◌, ◌-◌, ◌≤◌}
-use lib.ListN.{length}
-use native.Mathlib.Omega.{arith}
-use Rattle.model.proofs.From.{rank_le}
-use Rattle.model.proofs.Ordered.{place_low, place_high}
+use Rattle.std.proofs.Common.{◌-◌, ◌≤◌, length}
 use Rattle.model.specs.Runs.{rank}
 use Rattle.insertion_rank.proofs.first_at_least.Given as goal
 

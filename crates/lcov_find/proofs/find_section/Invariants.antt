@@ -1,15 +1,8 @@
 -- `find_section` gives the place where a section's lines begin. The invariant: the section asked for is the one with the index left among those that open from
 -- here on. The measure is what is left of the file. Assumes nothing.
-use Prim.Native.Nat.{ℕ, ◌+◌, ◌-◌, ◌≤◌}
-use borrow.Author.Rules.{rules}
-use lib.ListN.{length}
-use mathlib.Core.List.{List}
-use mathlib.Core.Path.{◌≡◌, sym, ◌∙◌}
-use native.Mathlib.Omega.{arith}
+use Rattle.std.proofs.Common.{◌≡◌, ◌+◌, ◌-◌, ◌≤◌, length}
 use Rattle.lcov_form.specs.Reading.{section_of}
-use Rattle.text_read.proofs.Pieces.{piece_ends}
-use Rattle.lcov_find.proofs.Finding.{left_of, left_start, left_end, left_inside, left_closed, left_outside, left_found, left_opened}
-use Rattle.lcov_find.proofs.Lines.{Ends, line_ends}
+use Rattle.lcov_find.proofs.Finding.{left_of}
 use Rattle.lcov_find.proofs.find_section.Given as goal
 
 abbrev pub invariant-loop-at : goal.invariant-loop-at

@@ -1,5 +1,4 @@
 -- `lcov_run` finds the section and reads it. Assumes nothing.
-use borrow.Author.Rules.{rules}
 use lib.ListN.{length}
 use mathlib.Core.Path.{subst}
 use Rattle.lcov_form.specs.Reading.{read_from, result_of, lcov_run}

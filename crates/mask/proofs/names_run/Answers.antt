@@ -1,6 +1,5 @@
 -- `names_run` meets its contract: the shifted mask's lowest bit is the run's. Assumes nothing.
 use Prim.Native.Nat.{ℕ, ◌/◌, ◌^◌}
-use borrow.Author.Rules.{rules}
 use lib.Bits.{and_mask}
 use lib.Dec.{eqb}
 use mathlib.Core.Path.{ap}

@@ -1,5 +1,4 @@
 -- `without_lowest` meets its contract: a mask and the number before it have all its runs but the lowest in common. Assumes nothing.
-use borrow.Author.Rules.{rules}
 use Rattle.mask.proofs.Lowest.{lowest_gone}
 use Rattle.mask.proofs.without_lowest.Goals as goal
 

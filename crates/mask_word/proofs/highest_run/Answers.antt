@@ -1,21 +1,17 @@
--- `highest_run` meets its contract: a word that names a run has its highest at its base and what its leading zeros leave. Assumes nothing.
-use borrow.Author.Rules.{rules}
-use lib.Count.{leading_top}
-use native.Mathlib.Omega.{arith}
+-- `highest_run` meets its contract: a word that names a run has its highest at its base and the greatest power of 2 that is not above its bits. Assumes nothing.
 use Rattle.mask_word.specs.Runs.{word_is}
 use Rattle.mask_word.proofs.Bits.{shifted_some}
-use Rattle.mask_word.proofs.Highest.{highest_zeros}
+use Rattle.mask_word.proofs.Highest.{highest_at}
 use Rattle.mask_word.proofs.highest_run.Goals as goal
 
-pub overflow_sub-result : goal.overflow_sub-result
+pub ilog2-requires : goal.ilog2-requires
 unfolding word_is
-overflow_sub-result c =
-    let w = c.args.word in
-    let t = leading_top 64 w.bits (shifted_some w.bits w.base c.requires) c.struct_known-2-1.given.0.fits in
-    omega (arith, t.1)
+ilog2-requires c =
+    shifted_some c.args.word.bits c.args.word.base c.requires
 
 pub returns : goal.returns
 unfolding word_is
 returns c =
     let w = c.args.word in
-    highest_zeros 63 w.base w.bits (shifted_some w.bits w.base c.requires) c.struct_known-2-1.given.0.fits
+    let e = c.ilog2.ensures in
+    rw c.from.ensures (highest_at w.base w.bits c.ilog2.result e.power_le e.next_power_gt)

@@ -3,7 +3,6 @@ use borrow.Author.Tests.{lt-ltb, le-ltb}
 use mathlib.Core.Logic.{⊎_elim}
 use mathlib.Core.Path.{◌∙◌, sym}
 use Prim.Native.Nat.{◌*◌, ◌^◌, ◌≤◌, ◌<◌}
-use native.Mathlib.Omega.{arith}
 use Rattle.mask_word.specs.Runs.{word_is}
 use Rattle.mask_word.proofs.Bits.{some_shifted, shifted_none}
 use Rattle.model.proofs.Tests.{lt_or_le}

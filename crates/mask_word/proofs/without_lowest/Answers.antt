@@ -1,4 +1,6 @@
 -- `without_lowest` meets its contract: a word's bits and the number before them have all its runs but the lowest in common. Assumes nothing.
+use Prim.Native.Nat.{◌^◌, ◌<◌}
+use borrow.Author.Rules.{rules}
 use native.Mathlib.Omega.{arith}
 use Rattle.mask_word.specs.Runs.{word_is}
 use Rattle.mask_word.proofs.Bits.{shifted_some}
@@ -14,4 +16,5 @@ pub returns : goal.returns
 unfolding word_is
 returns c =
     let w = c.args.word in
-    lowest_gone 64 w.base w.bits (shifted_some w.bits w.base c.requires) c.struct_known-2-1.given.0.fits
+    let f : w.bits < 2 ^ 64 = search rules in
+    lowest_gone 64 w.base w.bits (shifted_some w.bits w.base c.requires) f

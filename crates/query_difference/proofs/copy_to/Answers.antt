@@ -1,24 +1,14 @@
-use Prim.Native.Nat.{◌-◌}
 use borrow.Author.Rules.{rules}
-use lib.ListN.{length}
-use Rattle.query_difference.proofs.Passing.{Copying, copying_start, copying_end, copying_stop, copying_full, copying_on}
+use Rattle.query_difference.proofs.Passing.{copying_start, copying_end, copying_stop, copying_full, copying_on}
 use Rattle.query_difference.proofs.copy_to.Goals as goal
 
 pub loop-at-init : goal.loop-at-init
 loop-at-init c =
     copying_start _ _ _ _ _ (search rules)
 
-pub shape_of-answers-then-last-x : goal.shape_of-answers-then-last-x
-shape_of-answers-then-last-x c =
-    c.loop-at.invariant.kept.same
-
 pub returns-then-last-x : goal.returns-then-last-x
 returns-then-last-x c =
     copying_stop c.loop-at.invariant (search rules) (search rules)
-
-pub shape_of-answers-then-n-answers : goal.shape_of-answers-then-n-answers
-shape_of-answers-then-n-answers c =
-    c.loop-at.invariant.kept.same
 
 pub returns-then-n-answers : goal.returns-then-n-answers
 returns-then-n-answers c =
@@ -27,10 +17,6 @@ returns-then-n-answers c =
 pub loop-at-preserved : goal.loop-at-preserved
 loop-at-preserved c =
     copying_on c.loop-at.invariant (search rules) (search rules) (search rules)
-
-pub shape_of-answers : goal.shape_of-answers
-shape_of-answers c =
-    c.loop-at.invariant.kept.same
 
 pub returns : goal.returns
 returns c =

@@ -1,31 +1,30 @@
-use Prim.Native.Nat.{ℕ, ◌-◌, ◌<◌}
-use borrow.Author.Rules.{rules}
-use lib.ListN.{length, drop}
-use mathlib.Core.List.{List, ◌∷◌}
-use mathlib.Core.Path.{◌≡◌}
-use native.Mathlib.Omega.{arith}
+-- `in_gaps` passes over the run along the certificate's parts: each field that is read lies in the certificate. Assumes nothing.
+use Rattle.std.proofs.Common.{◌≡◌, ◌-◌, ◌<◌, List, ℕ, arith, drop, length, refl, rules}
+use Rattle.std.specs.Prelude.{Ok}
+use Rattle.std.proofs.lemmas.Result.{err_from_is_err_and}
 use Rattle.field_read.proofs.Held.{held_unreadable, held_part, part_inside, next_part}
-use Rattle.field_read.specs.Held.{parts_held}
-use Rattle.field_read.specs.Reading.{part_of}
+use Rattle.field_read.specs.Reading.{part_of, reading_of, EndsFrom}
+use Rattle.field_read.specs.declared.Field.{Field}
 use Rattle.model.proofs.Encoding.{size_pos}
-use Rattle.query_difference.proofs.Passing.{Passing, passing_start, passing_end, passing_done, passing_gap, passing_full, passing_answer}
+use Rattle.model.specs.Certificate.{read_field}
+use Rattle.query_difference.proofs.Passing.{passing_start, passing_end, passing_done, passing_gap, passing_full, passing_answer}
 use Rattle.query_difference.proofs.in_gaps.Goals as goal
 
+-- less of the certificate is left after a field
+less : (certificate : List ℕ) (at : ℕ) (field : Field) → reading_of certificate (Ok field) ≡ read_field (drop at certificate) → EndsFrom at (Ok field)
+    → length certificate - field.next < length certificate - at
+less certificate at field e f =
+    let s = size_pos (part_of field.part) in
+    let i = part_inside certificate at e refl in
+    let n = next_part (Ok field) field at refl f in
+    omega arith
+
 pub loop-place-init : goal.loop-place-init
-loop-place-init c =
-    passing_start _ _ _
-
-pub read_field-requires : goal.read_field-requires
-read_field-requires c =
-    tt
-
-pub shape_of-answers-in_default : goal.shape_of-answers-in_default
-shape_of-answers-in_default c =
-    c.loop-place.invariant.kept.same
+loop-place-init c = passing_start _ _ _
 
 pub returns-in_default : goal.returns-in_default
 returns-in_default c =
-    passing_end c.loop-place.invariant (held_unreadable ((c.args.certificate.now)) c.loop-place.at c.read_field.ensures.reading c.in_default.is)
+    passing_end c.loop-place.invariant (held_unreadable c.args.certificate.now c.loop-place.at c.read_field.ensures.reading c.in_default.is)
 
 pub copy_to-requires : goal.copy_to-requires
 copy_to-requires c =
@@ -34,62 +33,27 @@ copy_to-requires c =
     let s = k.same in
     omega arith
 
-pub shape_of-answers-in_default-copy_to : goal.shape_of-answers-in_default-copy_to
-shape_of-answers-in_default-copy_to c =
-    let s = c.loop-place.invariant.kept.same in search rules
+pub returns-in_err-copied-in-Gap : goal.returns-in_err-copied-in-Gap
+returns-in_err-copied-in-Gap c =
+    let p = err_from_is_err_and c.from_residual.result c.from_residual.ensures.1 in
+    let held = held_part c.args.certificate.now c.loop-place.at c.in-Ok.ensures.reading refl in
+    rw (p.1, p.2) (passing_full c.loop-place.invariant c.in-Ok.field.next held c.in-Gap.is c.in_err-copied-in-Gap.ensures)
 
-pub returns-in_default-copy_to : goal.returns-in_default-copy_to
-returns-in_default-copy_to c =
-    let held : parts_held (drop c.loop-place.at ((c.args.certificate.now)))
-    ≡ part_of c.in-Read.part ∷ parts_held (drop c.in-Read.next ((c.args.certificate.now))) =
-    held_part ((c.args.certificate.now)) c.loop-place.at c.read_field.ensures.reading c.in-Read.is in
-    passing_full c.loop-place.invariant c.in-Read.next (held) c.in-Gap.is
-    c.in_default-copy_to.is c.copy_to.ensures
+pub loop-place-smaller-in_ok-copied-in-Gap : goal.loop-place-smaller-in_ok-copied-in-Gap
+loop-place-smaller-in_ok-copied-in-Gap c = less c.args.certificate.now c.loop-place.at c.in-Ok.field c.in-Ok.ensures.reading c.in-Ok.ensures.next
 
-pub place_after-place-requires : goal.place_after-place-requires
-place_after-place-requires c =
-    tt
-
-pub loop-place-smaller-in-On : goal.loop-place-smaller-in-On
-loop-place-smaller-in-On c =
-    let less : length ((c.args.certificate.now)) - c.in-Read.next
-    < length ((c.args.certificate.now)) - c.loop-place.at =
-    let s = size_pos (part_of c.in-Read.part) in
-    let i = part_inside ((c.args.certificate.now)) c.loop-place.at c.read_field.ensures.reading c.in-Read.is in
-    let e = next_part c.read_field.result c.in-Read.part c.in-Read.next c.loop-place.at c.in-Read.is c.read_field.ensures.next in
-    omega (arith, e, s, i) in
-    less
-
-pub loop-place-preserved-in-On : goal.loop-place-preserved-in-On
-loop-place-preserved-in-On c =
-    let held : parts_held (drop c.loop-place.at ((c.args.certificate.now)))
-    ≡ part_of c.in-Read.part ∷ parts_held (drop c.in-Read.next ((c.args.certificate.now))) =
-    held_part ((c.args.certificate.now)) c.loop-place.at c.read_field.ensures.reading c.in-Read.is in
-    passing_gap c.loop-place.invariant c.in-Read.next (held) c.in-Gap.is
-    c.in-On.is c.copy_to.ensures
+pub loop-place-preserved-in_ok-copied-in-Gap : goal.loop-place-preserved-in_ok-copied-in-Gap
+loop-place-preserved-in_ok-copied-in-Gap c =
+    let held = held_part c.args.certificate.now c.loop-place.at c.in-Ok.ensures.reading refl in
+    passing_gap c.loop-place.invariant c.in-Ok.field.next held c.in-Gap.is c.in_ok-copied-in-Gap.ensures
 
 pub loop-place-smaller : goal.loop-place-smaller
-loop-place-smaller c =
-    let less : length ((c.args.certificate.now)) - c.in-Read.next
-    < length ((c.args.certificate.now)) - c.loop-place.at =
-    let s = size_pos (part_of c.in-Read.part) in
-    let i = part_inside ((c.args.certificate.now)) c.loop-place.at c.read_field.ensures.reading c.in-Read.is in
-    let e = next_part c.read_field.result c.in-Read.part c.in-Read.next c.loop-place.at c.in-Read.is c.read_field.ensures.next in
-    omega (arith, e, s, i) in
-    less
+loop-place-smaller c = less c.args.certificate.now c.loop-place.at c.in-Ok.field c.in-Ok.ensures.reading c.in-Ok.ensures.next
 
 pub loop-place-preserved : goal.loop-place-preserved
 loop-place-preserved c =
-    let held : parts_held (drop c.loop-place.at ((c.args.certificate.now)))
-    ≡ part_of c.in-Read.part ∷ parts_held (drop c.in-Read.next ((c.args.certificate.now))) =
-    held_part ((c.args.certificate.now)) c.loop-place.at c.read_field.ensures.reading c.in-Read.is in
-    passing_answer c.loop-place.invariant c.in-Read.next (held) c.in-Answer.is
-    c.place_after-place.ensures
-
-pub shape_of-answers : goal.shape_of-answers
-shape_of-answers c =
-    c.loop-place.invariant.kept.same
+    let held = held_part c.args.certificate.now c.loop-place.at c.in-Ok.ensures.reading refl in
+    passing_answer c.loop-place.invariant c.in-Ok.field.next held c.in-Answer.is c.place_after-place.ensures
 
 pub returns : goal.returns
-returns c =
-    passing_done c.loop-place.invariant (search rules)
+returns c = passing_done c.loop-place.invariant (search rules)

@@ -1,7 +1,6 @@
 -- `answer_all` lends a row of its own for the places of the runs' first bins. Assumes nothing.
 use Rattle.model.proofs.FirstChecks.{count_passed}
 use Rattle.model.proofs.ManyChecks.{many_passed}
-use borrow.Author.Rules.{rules}
 use Rattle.query_many.proofs.answer_all.Goals as goal
 
 pub slice_bounds-firsts-end : goal.slice_bounds-firsts-end

@@ -4,7 +4,6 @@ use Rattle.model.proofs.FirstChecks.{lists_passed}
 use Rattle.model.proofs.ManyChecks.{many_passed}
 use Rattle.query_many.specs.Outcomes.{many_outcome_is}
 use Rattle.query_many.proofs.Calls.{fitted_first, rows_first, ends_so}
-use borrow.Author.Rules.{rules}
 use Rattle.query_many.proofs.answer_with.Goals as goal
 
 pub first_places-requires : goal.first_places-requires

@@ -1,15 +1,11 @@
--- `first_of` gives the length of the first piece, four bytes at a time. The invariant: it is what was passed with the length of the first piece from here on. The
--- measure is what is left. Assumes nothing.
-use Prim.Native.Nat.{◌+◌, ◌-◌, ◌≤◌}
-use lib.ListN.{length, drop}
-use mathlib.Core.Path.{◌≡◌, sym, ◌∙◌}
-use native.Mathlib.Omega.{arith}
+-- `first_of` gives the length of the first piece, four bytes at a time. The invariant: it is what was passed with the length of the first piece of the rest. The
+-- measure is the rest. Assumes nothing.
+use Rattle.std.proofs.Common.{◌≡◌, ◌+◌, length}
 use Rattle.text_read.specs.Pieces.{until}
-use Rattle.text_read.proofs.Pieces.{met_here, not_here}
 use Rattle.text_read.proofs.first_of.Given as goal
 
-abbrev pub invariant-loop-i : goal.invariant-loop-i
-invariant-loop-i l = (l.i ≤ length l.bytes) × (until l.separator l.bytes ≡ l.i + until l.separator (drop l.i l.bytes))
+abbrev pub invariant-loop-rest : goal.invariant-loop-rest
+invariant-loop-rest l = (l.passed + length l.rest ≡ length l.bytes) × (until l.separator l.bytes ≡ l.passed + until l.separator l.rest)
 
-abbrev pub decreases-loop-i : goal.decreases-loop-i
-decreases-loop-i l = length l.bytes - l.i
+abbrev pub decreases-loop-rest : goal.decreases-loop-rest
+decreases-loop-rest l = length l.rest

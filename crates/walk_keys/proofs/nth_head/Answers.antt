@@ -1,6 +1,5 @@
 -- `nth_head` reads the head of the t-th key. Assumes nothing.
 use Rattle.walk_keys.proofs.Laws.{nth_is}
-use borrow.Author.Rules.{rules}
 use Rattle.walk_keys.proofs.nth_head.Goals as goal
 
 pub returns : goal.returns

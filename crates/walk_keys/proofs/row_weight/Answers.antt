@@ -1,65 +1,42 @@
-use Prim.Native.Nat.{ℕ, ◌+◌, ◌-◌, ◌*◌, ◌≤◌, ◌<◌}
-use borrow.Author.Rules.{rules}
-use lib.Bits.{bit_and, and_mask}
-use lib.ListN.{length, get_or, drop, length-drop}
-use mathlib.Core.List.{List}
-use mathlib.Core.Path.{◌≡◌, sym, ap, ◌∙◌}
-use native.Mathlib.Omega.{arith}
+use Rattle.std.proofs.Common.{◌≡◌, ◌<◌, List, ℕ, length, drop, get_or, sym, bit_and, arith}
 use Rattle.weights.proofs.Named.{no_weights}
-use Rattle.walk_keys.specs.Row.{sum_of, key_weight}
-use Rattle.walk_keys.proofs.Laws.{run_within, weight_read, sum_on, sum_end}
+use Rattle.walk_keys.specs.Row.{sum_of, key_weight, HaveWeights}
+use Rattle.walk_keys.proofs.Laws.{row, row_is, run_within, weight_read, sum_on, sum_end}
 use Rattle.walk_keys.proofs.Reaching.{row_counted}
-use Rattle.walk_keys.proofs.row_weight.Invariants.{Here}
 use Rattle.walk_keys.proofs.row_weight.Goals as goal
 
-pub returns-then-weights-eq0 : goal.returns-then-weights-eq0
-returns-then-weights-eq0 c =
-    let a = c.args in
-    let n = no_weights a.weights.now (omega (arith, c.if-weights-eq0.true)) in
-    sym
-    (ap (λ w. sum_of (key_weight w) (drop a.start a.keys.now)) n ∙ (row_counted (drop a.start a.keys.now) ∙ length-drop a.start a.keys.now))
+-- the run of a key of the row has a weight
+within : (keys : List ℕ) (start : ℕ) (weights : List ℕ) (i : ℕ) → HaveWeights weights (drop start keys) → 0 < length weights → i < length (row keys start)
+    → bit_and (get_or (row keys start) i 0) 255 < length weights
+within keys start weights i h p l =
+    let have : HaveWeights weights (row keys start) = rw row_is h in
+    run_within (row keys start) 0 weights i have p (omega arith) l
 
-pub loop-i-init : goal.loop-i-init
-loop-i-init c =
-    record { low = omega arith; high = omega arith; same = omega arith; small = omega arith }
+pub bounds-weights-key : goal.bounds-weights-key
+bounds-weights-key c =
+    let p : 0 < length c.args.weights.now = grind arith in
+    within c.args.keys.now c.args.start c.args.weights.now c.loop-key.key-index c.requires.2 p (omega arith)
 
-pub offset_bounds-weights-keys : goal.offset_bounds-weights-keys
-offset_bounds-weights-keys c =
-    let k = and_mask (get_or c.args.keys.now c.loop-i.i 0) 8 in
-    record { fits = omega arith }
-
-pub bounds-weights-keys : goal.bounds-weights-keys
-bounds-weights-keys c =
-    let known : (let a = c.args in bit_and (get_or a.keys.now c.loop-i.i 0) 255 < length a.weights.now) =
-    let a = c.args in
-    run_within a.keys.now a.start a.weights.now c.loop-i.i c.requires.2 (omega (arith, c.if-weights-eq0.false)) c.loop-i.invariant.low (omega arith) in
-    known
-
-pub overflow_add-total : goal.overflow_add-total
-overflow_add-total c =
-    let a = c.args in
-    let b = c.type_inv.weights (bit_and (get_or a.keys.now c.loop-i.i 0) 255) in
-    record { fits = omega (arith, c.requires.1, c.loop-i.invariant.small, c.loop-i.invariant.high, c.usize_of_u32-total.ensures) }
-
-pub loop-i-preserved : goal.loop-i-preserved
-loop-i-preserved c =
-    let known : (let a = c.args in bit_and (get_or a.keys.now c.loop-i.i 0) 255 < length a.weights.now) =
-    let a = c.args in
-    run_within a.keys.now a.start a.weights.now c.loop-i.i c.requires.2 (omega (arith, c.if-weights-eq0.false)) c.loop-i.invariant.low (omega arith) in
-    let a = c.args in
-    let k = get_or a.keys.now c.loop-i.i 0 in
+pub loop-key-preserved : goal.loop-key-preserved
+loop-key-preserved c =
+    let s = row c.args.keys.now c.args.start in
+    let k = get_or s c.loop-key.key-index 0 in
+    let p : 0 < length c.args.weights.now = grind arith in
+    let l = within c.args.keys.now c.args.start c.args.weights.now c.loop-key.key-index c.requires.2 p (omega arith) in
     let b = c.type_inv.weights (bit_and k 255) in
-    let w = c.usize_of_u32-total.ensures ∙ weight_read a.weights.now k (known) in
-    let s = sum_on (key_weight a.weights.now) a.keys.now c.loop-i.i c.loop-i-test.true in
-    record {
-      low = omega (arith, c.loop-i.invariant.low);
-      high = omega arith;
-      same = omega (arith, c.loop-i.invariant.same);
-      small = omega (arith, c.loop-i.invariant.small, c.usize_of_u32-total.ensures);
-    }
+    let w = weight_read c.args.weights.now k l in
+    let n = sum_on (key_weight c.args.weights.now) s c.loop-key.key-index (omega arith) in
+    record { same = omega arith; small = omega arith }
+
+pub returns-then-is_empty : goal.returns-then-is_empty
+returns-then-is_empty c =
+    let s = drop c.args.start c.args.keys.now in
+    let z : length c.args.weights.now ≡ 0 = grind arith in
+    rw (row_is, no_weights c.args.weights.now z) (sym (row_counted s))
 
 pub returns : goal.returns
 returns c =
-    let a = c.args in
-    let e = sum_end (key_weight a.weights.now) a.keys.now c.loop-i.i (omega arith) in
-    omega (arith, c.loop-i.invariant.same)
+    let s = row c.args.keys.now c.args.start in
+    let e = sum_end (key_weight c.args.weights.now) s c.loop-key.key-index (omega arith) in
+    let all : c.loop-key.total ≡ sum_of (key_weight c.args.weights.now) s = omega arith in
+    rw row_is at all

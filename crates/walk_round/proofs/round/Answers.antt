@@ -3,7 +3,6 @@
 use Prim.Native.Nat.{◌≤◌}
 use native.Mathlib.Omega.{arith}
 use Rattle.walk_round.proofs.Ending.{reach_ready, last_ready, ends_there, head_fits, advances}
-use borrow.Author.Rules.{rules}
 use Rattle.walk_round.proofs.round.Goals as goal
 
 pub last_gap-requires : goal.last_gap-requires

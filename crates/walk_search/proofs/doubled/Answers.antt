@@ -1,4 +1,4 @@
-use Prim.Native.Nat.{ℕ, ◌+◌, ◌-◌, ◌<◌}
+use Prim.Native.Nat.{ℕ, ◌+◌}
 use lib.ListN.{length}
 use mathlib.Core.List.{List}
 use mathlib.Core.Path.{◌≡◌, refl, sym, ap, ◌∙◌}
@@ -6,9 +6,8 @@ use native.Mathlib.Omega.{arith}
 use Rattle.model.specs.Walk.{Bracket, doubling}
 use Rattle.walk_tally.specs.Tally.{left_in, halved_in}
 use Rattle.walk_search.specs.Limited.{Doubles}
-use Rattle.walk_search.proofs.Laws.{more_b, no_more, double_due, double_found, double_next, double_past}
-use Rattle.walk_search.specs.declared.Bracketed.TheVariants.{Between}
-use borrow.Author.Rules.{rules}
+use Rattle.walk_search.proofs.Laws.{no_more, double_due, double_found, double_next, double_past}
+use Rattle.std.specs.Prelude.{Ok}
 use Rattle.walk_search.proofs.doubled.Invariants.{Here}
 use Rattle.walk_search.proofs.doubled.Goals as goal
 
@@ -19,7 +18,7 @@ probed tally' h e = let l = h.left in let k = h.halved in (omega (arith, e.0), e
 
 -- the doubling ended here
 ended : (before v : ℕ) (s : List ℕ) (b : Bracket) (tally : ℕ) → doubling (length s) v s 0 1 ≡ b
-    → (left_in tally + b.probes ≡ left_in before) × (halved_in tally ≡ halved_in before) → Doubles before (doubling (length s) v s 0 1) (Between b.lo b.hi tally)
+    → (left_in tally + b.probes ≡ left_in before) × (halved_in tally ≡ halved_in before) → Doubles before (doubling (length s) v s 0 1) (Ok (record { lo = b.lo; hi = b.hi; tally = tally }))
 ended before v s b tally e t =
     let p = ap (λ (x : Bracket). x.probes) e in
     (sym (ap (λ (x : Bracket). x.lo) e), sym (ap (λ (x : Bracket). x.hi) e), omega (arith, t.0), t.1)

@@ -3,14 +3,10 @@
 use Prim.Native.Nat.{ℕ, ◌+◌, ◌-◌, ◌<◌}
 use lib.ListN.{length}
 use mathlib.Core.List.{List}
-use mathlib.Core.Path.{◌≡◌, refl, sym, ap, ◌∙◌}
-use native.Mathlib.Omega.{arith}
-use Rattle.model.specs.Walk.{Bracket, doubling}
+use mathlib.Core.Path.{◌≡◌}
+use Rattle.model.specs.Walk.{doubling}
 use Rattle.walk_tally.specs.Tally.{left_in, halved_in}
-use Rattle.walk_search.specs.Limited.{Doubles}
-use Rattle.walk_search.proofs.Laws.{more_b, no_more, double_due, double_found, double_next, double_past}
-use Rattle.walk_search.specs.declared.Bracketed.TheVariants.{Between}
-use borrow.Author.Rules.{rules}
+use Rattle.walk_search.proofs.Laws.{more_b}
 use Rattle.walk_search.proofs.doubled.Given as goal
 
 pub record Here (s : List ℕ) (v before n lo place tally : ℕ) : Type 0 where

@@ -1,12 +1,10 @@
-use Prim.Native.Nat.{ℕ, ◌+◌, ◌-◌, ◌≤◌}
-use lib.ListN.{length}
+use Prim.Native.Nat.{ℕ, ◌+◌}
 use mathlib.Core.List.{List}
 use mathlib.Core.Path.{◌≡◌, sym, ap, ◌∙◌}
 use native.Mathlib.Omega.{arith}
-use Rattle.model.specs.Walk.{Halving, halving}
+use Rattle.model.specs.Walk.{Halving}
 use Rattle.walk_tally.specs.Tally.{left_in, halved_in}
-use Rattle.walk_search.proofs.Laws.{more_h, no_more_h, halve_due, halve_next_up, halve_next_down, halve_done}
-use borrow.Author.Rules.{rules}
+use Rattle.walk_search.proofs.Laws.{no_more_h, halve_due, halve_next_up, halve_next_down, halve_done}
 use Rattle.walk_search.proofs.halved.Invariants.{Here}
 use Rattle.walk_search.proofs.halved.Goals as goal
 

@@ -3,12 +3,10 @@
 use Prim.Native.Nat.{ℕ, ◌+◌, ◌-◌, ◌≤◌}
 use lib.ListN.{length}
 use mathlib.Core.List.{List}
-use mathlib.Core.Path.{◌≡◌, sym, ap, ◌∙◌}
-use native.Mathlib.Omega.{arith}
-use Rattle.model.specs.Walk.{Halving, halving}
+use mathlib.Core.Path.{◌≡◌}
+use Rattle.model.specs.Walk.{halving}
 use Rattle.walk_tally.specs.Tally.{left_in, halved_in}
-use Rattle.walk_search.proofs.Laws.{more_h, no_more_h, halve_due, halve_next_up, halve_next_down, halve_done}
-use borrow.Author.Rules.{rules}
+use Rattle.walk_search.proofs.Laws.{more_h}
 use Rattle.walk_search.proofs.halved.Given as goal
 
 pub record Here (s : List ℕ) (v from to before lo hi tally : ℕ) : Type 0 where

@@ -7,7 +7,6 @@ use mathlib.Core.Path.{◌≡◌}
 use Rattle.walk_state.specs.Moves.{StepReady}
 use Rattle.walk_state.specs.State.{InPlay}
 use Rattle.walk_settle.proofs.Passing.{step_ready, passed_on, passed_last}
-use borrow.Author.Rules.{rules}
 use Rattle.walk_settle.proofs.pass.Goals as goal
 
 pub returns-then-w-eq-LAST_BIN : goal.returns-then-w-eq-LAST_BIN

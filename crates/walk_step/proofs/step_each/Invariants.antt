@@ -1,12 +1,6 @@
 -- `step_each` moves the runs that the mask names on by one. The invariant is `Here`; the measure is the mask, from which each turn takes a bit.
 -- Assumes nothing.
-use Prim.Native.Nat.{◌<◌}
-use lib.ListN.{length, get_or}
-use lib.Pow.{pow_pos}
-use mathlib.Core.Path.{ap}
-use native.Mathlib.Omega.{arith}
-use Rattle.walk_step.proofs.Steps.{Here, here_start, steppable, not_at_end, here_on, here_end}
-use borrow.Author.Rules.{rules}
+use Rattle.walk_step.proofs.Steps.{Here}
 use Rattle.walk_step.proofs.step_each.Given as goal
 
 abbrev pub invariant-loop-rest : goal.invariant-loop-rest

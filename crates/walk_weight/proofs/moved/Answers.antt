@@ -1,5 +1,4 @@
 -- `moved` takes the run's weight off where the run has no number left. Assumes nothing.
-use borrow.Author.Rules.{rules}
 use native.Mathlib.Omega.{arith}
 use Rattle.walk_state.proofs.InPlay.{lost_none, lost_all}
 use Rattle.walk_weight.proofs.moved.Goals as goal

@@ -1,5 +1,4 @@
 -- `stepped` leaves the weight where each of the runs has a number left, and lowers it otherwise. Assumes nothing.
-use borrow.Author.Rules.{rules}
 use Rattle.walk_weight.proofs.Lowering.{all_have}
 use Rattle.walk_weight.proofs.stepped.Goals as goal
 

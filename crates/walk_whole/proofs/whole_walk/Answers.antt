@@ -5,7 +5,6 @@ use Rattle.model.specs.Runs.{past_bin}
 use Rattle.walk_state.proofs.Moving.{past_is}
 use Rattle.walk_whole.proofs.Beginning.{begin_ready, row_ready, stands_first, comes_first}
 use Rattle.model.proofs.FirstChecks.{fits}
-use borrow.Author.Rules.{rules}
 use Rattle.walk_whole.proofs.whole_walk.Goals as goal
 
 pub begin-start-requires : goal.begin-start-requires

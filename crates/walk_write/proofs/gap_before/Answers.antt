@@ -1,6 +1,5 @@
 -- `gap_before` writes a gap where there is one. Assumes nothing.
 use Rattle.walk_write.proofs.Writing.{no_gap, some_gap}
-use borrow.Author.Rules.{rules}
 use Rattle.walk_write.proofs.gap_before.Goals as goal
 
 pub returns-then-v-w : goal.returns-then-v-w

@@ -1,5 +1,4 @@
 -- `fewer` is the mask or what it leaves out. Assumes nothing.
-use borrow.Author.Rules.{rules}
 use mathlib.Core.Logic.{inl, inr}
 use mathlib.Core.Path.{refl}
 use Rattle.weights.proofs.fewer.Goals as goal

@@ -1,15 +1,9 @@
 -- `named_weight` adds the weights of the runs that the mask names. The invariant: what is added and what is left to add are together what the mask's runs weigh,
 -- and no run is left that the mask does not name. The measure is the mask that is left. Assumes nothing.
-use Prim.Native.Nat.{ℕ, ◌+◌, ◌^◌, ◌≤◌, ◌<◌}
-use borrow.Author.Rules.{rules}
-use lib.ListN.{length, get_or}
-use lib.Pow.{pow_pos}
+use Prim.Native.Nat.{ℕ, ◌+◌, ◌≤◌}
 use mathlib.Core.List.{List}
-use mathlib.Core.Path.{◌≡◌, sym, ap, ◌∙◌}
-use native.Mathlib.Omega.{arith}
-use Rattle.model.proofs.Masks.{below_only}
+use mathlib.Core.Path.{◌≡◌}
 use Rattle.weights.specs.Named.{named_weight}
-use Rattle.weights.proofs.Named.{cleared_weight, weight_at, weights_small, none_named, most_named}
 use Rattle.weights.proofs.named_weight.Given as goal
 
 pub record Here (mask : ℕ) (weights : List ℕ) (total rest : ℕ) : Type 0 where

@@ -2,7 +2,7 @@
 use Prim.Native.Nat.{◌+◌}
 use borrow.Author.Rules.{rules}
 use lib.ListN.{length}
-use mathlib.Core.Path.{◌≡◌, ap, ◌∙◌}
+use mathlib.Core.Path.{◌≡◌}
 use native.Mathlib.Omega.{arith}
 use Rattle.weights.specs.Named.{named_weight}
 use Rattle.weights.proofs.Named.{fewer_within, fewer_weight}
@@ -12,14 +12,10 @@ pub named_weight-weight-requires : goal.named_weight-weight-requires
 named_weight-weight-requires c =
     let p = c.requires in
     let w = p.row in
-    (w.few, fewer_within c.args.all c.args.mask c.fewer-summed.result c.fewer-summed.ensures (length c.args.weights.now) p.only (w.within (omega (arith, c.if-weights-gt0.true))))
-
-pub returns-then-summed-mask : goal.returns-then-summed-mask
-returns-then-summed-mask c =
-    c.named_weight-weight.ensures ∙ ap (named_weight c.args.weights.now) c.if-summed-mask.true
+    (w.few, fewer_within c.args.all c.args.mask c.fewer-summed.result c.fewer-summed.ensures (length c.args.weights.now) p.only (w.within (search rules)))
 
 -- what the others weigh and what the named ones do are together the total
-together : (c : goal.Else-summed-mask) → (c.named_weight-weight.result + named_weight c.args.weights.now c.args.mask ≡ c.args.total)
+together : (c : goal.Else-summed-mask) → c.named_weight-weight.result + named_weight c.args.weights.now c.args.mask ≡ c.args.total
 together c =
     let e = fewer_weight c.args.all c.args.mask c.fewer-summed.result c.fewer-summed.ensures c.args.weights.now c.if-summed-mask.false in
     omega (arith, c.named_weight-weight.ensures, c.requires.whole)
@@ -28,10 +24,6 @@ pub overflow_sub-result : goal.overflow_sub-result
 overflow_sub-result c =
     let e = together c in omega arith
 
-pub returns-then-weights-gt0 : goal.returns-then-weights-gt0
-returns-then-weights-gt0 c =
+pub returns-then-not-is_empty : goal.returns-then-not-is_empty
+returns-then-not-is_empty c =
     let e = together c in omega arith
-
-pub weight_of-requires : goal.weight_of-requires
-weight_of-requires c =
-    record { few = c.requires.row.few; within = λ h. absurd (omega (arith, c.if-weights-gt0.false)) }
