@@ -1,9 +1,7 @@
 -- What one read comes to, and how reading goes on after it (docs/SPECIFICATION.md, 'The program hits'). Definitions only.
-use Rattle.std.specs.Prelude.{ℕ, zero, suc, ◌+◌, ◌≤◌, ◌<◌, true, false, Result, Ok, Err}
-use Rattle.std.specs.IoError.{error_kind}
+use Rattle.std.specs.Prelude.{ℕ, zero, suc, ◌+◌, ◌≤◌, ◌<◌, Bool, true, false, eqb, ℤ, pos, negsuc, Option, Some, None, Result, Ok, Err}
+use Rattle.std.specs.IoError.{raw_os_error}
 use Rattle.std.specs.declared.io.Error.{Error}
-use Rattle.std.specs.declared.io.ErrorKind.{ErrorKind}
-use Rattle.std.specs.declared.io.ErrorKind.TheVariants.{Interrupted}
 use Rattle.std.specs.declared.ops.ControlFlow.{ControlFlow}
 use Rattle.std.specs.declared.ops.ControlFlow.TheVariants.{Continue, Break}
 use Rattle.hits_read.specs.declared.Received.{Received}
@@ -15,15 +13,21 @@ pub data Reading : Type 0 where
   interrupted : Reading
   failed : Reading
 
--- What a read answered: the number of bytes that it put into the buffer, 0 at the end of the input; or an error, whose kind tells whether it was only interrupted.
-unfoldable pub error_reading : ErrorKind → Reading
-error_reading Interrupted = interrupted
-error_reading _ = failed
+-- errno tells that a call was interrupted: its value is C's EINTR
+unfoldable pub interrupts : ℤ → Bool
+interrupts (pos e) = eqb e 4
+interrupts (negsuc e) = false
+
+-- What a read answered: the number of bytes that it put into the buffer, 0 at the end of the input; or an error, whose errno, if it has one, tells whether it was only
+-- interrupted.
+unfoldable pub error_reading : Option ℤ → Reading
+error_reading (Some errno) = elim (interrupts errno) [ true ↦ interrupted | false ↦ failed ]
+error_reading None = failed
 
 unfoldable pub reading_of : Result ℕ Error → Reading
 reading_of (Ok zero) = ended
 reading_of (Ok (suc n)) = bytes (suc n)
-reading_of (Err error) = error_reading (error_kind error)
+reading_of (Err error) = error_reading (raw_os_error error)
 
 -- A read that fails is not the end of the input. An interrupted read is tried again, so many times; the next one counts as failed. (Here: how reading goes
 -- on after a read, which came after so many bytes and with so many tries left: with so many, or it is over after so many, and a read failed or none did.)

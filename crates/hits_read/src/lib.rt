@@ -6,8 +6,11 @@ ghost use Rattle.std.specs.Prelude.{◌≡◌, ◌-◌, ◌^◌, ◌≤◌, leng
 ghost use Rattle.hits_read.specs.Reading.{reading_of, step_after, Within};
 
 use std::io;
-use std::io::{ErrorKind, Read};
+use std::io::Read;
 use std::ops::ControlFlow::{self, Break, Continue};
+
+// The errno of a read that was interrupted, C's EINTR.
+const INTERRUPTED: i32 = 4;
 
 // So many times an interrupted read is tried again; the next interruption counts as a failure. Reading is proved to end and nothing says that
 // interruptions do, so there is a bound, too large ever to be reached.
@@ -36,7 +39,7 @@ fn step_after(
         }),
         Ok(n) => Continue((size + n, tries)),
         Err(error) => {
-            if error.kind() == ErrorKind::Interrupted && tries > 0 {
+            if error.raw_os_error() == Some(INTERRUPTED) && tries > 0 {
                 return Continue((size, tries - 1));
             }
             Break(Received { size, failed: true })

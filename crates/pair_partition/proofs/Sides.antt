@@ -3,11 +3,11 @@
 use Prim.Native.Nat.{ℕ, ◌+◌, ◌-◌, ◌/◌, ◌≤◌, ◌<◌, min}
 use borrow.Author.Tests.{eq-eqb, ne_eqb}
 use lib.Dec.{eqb}
-use lib.ListN.{length, get_or, take, drop}
+use lib.ListN.{length, get_or, take, drop, length-take, length-drop}
 use mathlib.Core.Bool.{true, false}
 use mathlib.Core.List.{List, [], ◌++◌}
 use mathlib.Core.Logic.{⊎_elim, ◌≢◌}
-use mathlib.Core.Path.{◌≡◌, refl, ap, ◌∙◌}
+use mathlib.Core.Path.{◌≡◌, refl, ap, ap₂, ◌∙◌}
 use native.Mathlib.Omega.{arith}
 use Rattle.insertion_rank.proofs.Passed.{begins_here, begins_end, drop_after}
 use Rattle.insertion_rank.specs.Passed.{begins_with, passed_over}
@@ -18,7 +18,7 @@ use Rattle.model.specs.Runs.{rank, one}
 use Rattle.pair_model.proofs.Sides.{rise_take, rise_drop}
 use Rattle.pair_model.proofs.Splitting.{half_digits, split_of_first, split_of_second, split_inside, below_half, above_half, partition_none, partition_split}
 use Rattle.pair_model.specs.Pair.{middle, split_of, pivot_of, partition, found_in}
-use Rattle.pair_partition.specs.Sides.{Sides, Entered, MiddleOf, SplitsAt, Splits, pivot_in}
+use Rattle.pair_partition.specs.Sides.{Entered, MiddleOf, SplitsAt, Splits, pivot_in}
 use Rattle.pair_partition.specs.declared.Places.{Places}
 use Rattle.pair_partition.specs.declared.Split.{Split}
 
@@ -133,14 +133,24 @@ module _ {a b : List ℕ} {s : Split} (e : Entered a b) (h : Splits a b s) where
 
   -- ---- the sides
 
-  pub below_sides : Sides (take s.first.below a) (take s.second.below b)
-  below_sides = record { first = rise_take s.first.below a e.first; second = rise_take s.second.below b e.second }
+  pub below_length : min (length (take s.first.below a)) (length (take s.second.below b)) ≡ min s.first.below s.second.below
+  below_length = let w = below_within in omega (arith, length-take s.first.below a, length-take s.second.below b)
+
+  pub below_entered : 0 < min s.first.below s.second.below → Entered (take s.first.below a) (take s.second.below b)
+  below_entered p =
+      let l = below_length in
+      record { first = rise_take s.first.below a e.first; second = rise_take s.second.below b e.second; some = omega arith }
 
   pub below_shorter : min (length (take s.first.below a)) (length (take s.second.below b)) ≤ min (length a) (length b) / 2
   below_shorter = rw (h.first.below, h.second.below) (below_half a b e.some)
 
-  pub above_sides : Sides (drop s.first.above a) (drop s.second.above b)
-  above_sides = record { first = rise_drop s.first.above a e.first; second = rise_drop s.second.above b e.second }
+  pub above_length : min (length (drop s.first.above a)) (length (drop s.second.above b)) ≡ min (length a - s.first.above) (length b - s.second.above)
+  above_length = ap₂ min (length-drop s.first.above a) (length-drop s.second.above b)
+
+  pub above_entered : min (length a - s.first.above) (length b - s.second.above) ≢ 0 → Entered (drop s.first.above a) (drop s.second.above b)
+  above_entered p =
+      let l = above_length in
+      record { first = rise_drop s.first.above a e.first; second = rise_drop s.second.above b e.second; some = omega arith }
 
   pub above_shorter : min (length (drop s.first.above a)) (length (drop s.second.above b)) ≤ min (length a) (length b) / 2
   above_shorter = rw (drop_above h.first, drop_above h.second) (above_half a b e.some)

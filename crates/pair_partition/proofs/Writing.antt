@@ -3,14 +3,14 @@ use Prim.Native.Nat.{ℕ, ◌-◌, ◌≤◌, min}
 use lib.ListN.{length, take, drop, length-drop}
 use lib.Seq.{take_all}
 use mathlib.Core.List.{List, ◌++◌}
-use mathlib.Core.Path.{◌≡◌, subst}
+use mathlib.Core.Path.{◌≡◌, subst, ◌∙◌}
 use native.Mathlib.Omega.{arith}
 use Rattle.pair_model.specs.Pair.{partition, found_in}
 use Rattle.row_fill.proofs.Keeping.{Keeping, keeping_start, keeping_end, keeping_on, keeping_cut, keeping_last}
 use Rattle.row_fill.specs.Keeps.{Keeps}
 use Rattle.refusal.specs.declared.Reason.{Reason}
 use Rattle.std.specs.Prelude.{Result, Ok, Err}
-use Rattle.pair_partition.proofs.Sides.{none_found, found_below, found_above, found_split}
+use Rattle.pair_partition.proofs.Sides.{none_found, found_below, found_above, found_split, below_length, above_length}
 use Rattle.pair_partition.specs.Sides.{Entered, Splits, pivot_in}
 use Rattle.pair_partition.specs.declared.Split.{Split}
 
@@ -32,6 +32,14 @@ module _ {a b : List ℕ} {s : Split} (e : Entered a b) (h : Splits a b s) (row 
 
   due : Keeping whole row row count (found_below e h ++ (pivot_in s ++ found_above e h))
   due = subst (λ l. Keeping whole row row count l) (found_split e h) (keeping_start row count (found_in (partition a b)) w)
+
+  -- no answer is below the pivot where a side below it is empty, and none above it where a side above it is
+  pub not_below : min s.first.below s.second.below ≡ 0 → Keeps (take count row ++ found_below e h) row row (Ok count)
+  not_below q = none_kept _ _ row count w (below_length e h ∙ q)
+
+  pub not_above : {row₂ : List ℕ} {m : ℕ} → Keeping whole row row₂ m (found_above e h) → min (length a - s.first.above) (length b - s.second.above) ≡ 0
+      → Keeps whole row row₂ (Ok m)
+  not_above {row₂ = row₂} {m = m} k q = keeping_end (subst (λ l. Keeping whole row row₂ m l) (none_found _ _ (above_length e h ∙ q)) k)
 
   module _ (row₁ : List ℕ) where
     pub after_below : (n : ℕ) → Keeps (take count row ++ found_below e h) row row₁ (Ok n) → Keeping whole row row₁ n (pivot_in s ++ found_above e h)

@@ -13,11 +13,6 @@ pub record Risen (a b : List ℕ) : Type 0 where
   pub second : Rise 0 b
   pub few : length a ≤ most_numbers
 
--- two sides, which rise
-pub record Sides (a b : List ℕ) : Type 0 where
-  pub first : Rise 0 a
-  pub second : Rise 0 b
-
 -- two sides that are entered: neither is empty
 pub record Entered (a b : List ℕ) : Type 0 where
   pub first : Rise 0 a

@@ -6,7 +6,7 @@ ghost use Rattle.model.specs.Compared.{digits};
 ghost use Rattle.model.specs.Rows.{Rise};
 ghost use Rattle.model.specs.Runs.{rank};
 ghost use Rattle.pair_model.specs.Pair.{partition, found_in};
-ghost use Rattle.pair_partition.specs.Sides.{Risen, Sides, Entered, MiddleOf, SplitsAt, Splits, pivot_in};
+ghost use Rattle.pair_partition.specs.Sides.{Risen, Entered, MiddleOf, SplitsAt, Splits, pivot_in};
 ghost use Rattle.row_fill.specs.Keeps.{Keeps};
 
 use refusal::Reason;
@@ -90,9 +90,8 @@ fn put_pivot(answers: &mut [u32], count: usize, split: Split) -> Result<usize, R
     Ok(count + 1)
 }
 
-// Writes the bins that both sides have after `count` answers: those below the pivot, the pivot, those above it. `nesting` is how many calls may be nested from
-// here on, this one among them.
-#[cycle(partition)]
+// Writes the bins that both sides have after `count` answers: those below the pivot, the pivot, those above it. An empty side is not entered. `nesting` is how many
+// calls may be nested from here on, this one among them.
 fn partition(
     first: &[u32],
     second: &[u32],
@@ -105,30 +104,16 @@ fn partition(
 {
     let split = split_sides(first, second);
     let (i, j) = (split.first.below, split.second.below);
-    let below = enter(&first[..i], &second[..j], answers, count, nesting - 1)?;
+    let mut below = count;
+    if 0 < i.min(j) {
+        below = partition(&first[..i], &second[..j], answers, count, nesting - 1)?;
+    }
     let kept = put_pivot(answers, below, split)?;
     let (k, l) = (split.first.above, split.second.above);
-    enter(&first[k..], &second[l..], answers, kept, nesting - 1)
-}
-
-// The same for sides of which one may be empty: then they have no bins in common, and are not entered. (As a call of its own a pair took up to 18 % more
-// instructions.)
-#[cycle(partition)]
-#[inline(always)]
-fn enter(
-    first: &[u32],
-    second: &[u32],
-    answers: &mut [u32],
-    count: usize,
-    nesting: u32,
-) -> Result<usize, Reason>
-    requires { Sides first.now second.now × (count ≤ length answers.old) × (digits (min (length first.now) (length second.now)) ≤ nesting) }
-    ensures { Keeps (take count answers.old ++ found_in (partition first.now second.now)) answers.old answers.new result }
-{
-    if first.is_empty() || second.is_empty() {
-        return Ok(count);
+    if (first.len() - k).min(second.len() - l) == 0 {
+        return Ok(kept);
     }
-    partition(first, second, answers, count, nesting)
+    partition(&first[k..], &second[l..], answers, kept, nesting - 1)
 }
 
 // Writes the bins of both runs from the row's start. Its calls of itself are nested as deep as the shorter length has binary digits, at most.
@@ -137,5 +122,8 @@ pub fn intersect(first: &[u32], second: &[u32], answers: &mut [u32]) -> Result<u
     ensures { Keeps (found_in (partition first.now second.now)) answers.old answers.new result }
 {
     let shorter = first.len().min(second.len());
-    enter(first, second, answers, 0, arith::digits_of(shorter as u32))
+    if shorter == 0 {
+        return Ok(0);
+    }
+    partition(first, second, answers, 0, arith::digits_of(shorter as u32))
 }
