@@ -1,5 +1,5 @@
--- The lowest run of a mask is the number of its trailing zeros. A mask that names run i names, less 2 ^ i, the same runs but i. Stated over the width. Assumes
--- nothing.
+-- The lowest run of a mask is the number of its trailing zeros. A mask that names run i is at least 2 ^ i; less 2 ^ i it names the same runs but i.
+-- Stated over the width. Assumes nothing.
 use Prim.Native.Nat.{ℕ, zero, suc, ◌+◌, ◌-◌, ◌*◌, ◌/◌, ◌%◌, ◌^◌, ◌≤◌, ◌<◌, min}
 use lib.Bits.{bit_and, and_step, and_self}
 use lib.Count.{count_trailing_zeros}
@@ -9,7 +9,7 @@ use mathlib.Core.Path.{◌≡◌, sym, ap, ◌∙◌}
 use native.Mathlib.Nat.{mod-lt, suc-mul}
 use native.Mathlib.Omega.{arith}
 use Rattle.mask.specs.Mask.{Lowest, LowestGone}
-use Rattle.mask.proofs.Mask.{bit_added}
+use Rattle.mask.proofs.Mask.{bit_above, bit_added}
 use Rattle.model.proofs.Masks.{bit_of, bit_zero, bit_half}
 use Rattle.model.proofs.Tests.{lt_or_le, eq_or_ne}
 use Rattle.model.specs.Runs.{bit}
@@ -57,6 +57,13 @@ pub lowest_zeros : (m : ℕ) → 0 < m → m < 2 ^ 64 → Lowest m (count_traili
 lowest_zeros m p h = let t = lowest_in 64 m p h in record { here = t.here; none_before = t.none_before; small = t.small }
 
 -- A mask without a run that it names.
+
+pub power_le : (m i : ℕ) → bit m i ≡ 1 → 2 ^ i ≤ m
+power_le m i e =
+    ⊎_elim
+    (λ (h : m < 2 ^ i). let z = bit_above m i h in absurd (omega arith))
+    (λ (h : 2 ^ i ≤ m). h)
+    (lt_or_le m (2 ^ i))
 
 pub cleared_here : (m r i : ℕ) → bit m i ≡ 1 → r + 2 ^ i ≡ m → bit r i ≡ 0
 cleared_here m r i e f =

@@ -1,16 +1,18 @@
 -- The bits of two masks together, those of a mask that another has not, a mask with a run's bit set (its other bits stay, and where the bit was 0 the mask grows by
--- 2 to the power of the run), and one without. Stated over the run and the width. Assumes nothing.
+-- 2 to the power of the run), and a run's bit tested. Stated over the run and the width. Assumes nothing.
 use Prim.Native.Nat.{ℕ, zero, suc, ◌+◌, ◌-◌, ◌*◌, ◌/◌, ◌%◌, ◌^◌, ◌≤◌, ◌<◌, max}
-use lib.Bits.{bit_and, bit_or, bit_xor, differ, or_step, or_shr, xor_step, xor_shr, or_disjoint, and_block, and_mask, and_zero_r, and_comm}
+use lib.Bits.{bit_and, bit_or, bit_xor, differ, or_step, or_shr, xor_step, xor_shr, or_disjoint, and_block, and_mask, and_zero_r}
 use lib.Pow.{pow_pos, pow-lt, pow-add, shl-shr, split}
+use lib.Dec.{eqb}
+use borrow.Author.Tests.{eqb-true, eq-eqb}
+use mathlib.Core.Bool.{Bool, true, false}
 use mathlib.Core.Logic.{◌≢◌, ⊎_elim}
 use mathlib.Core.Path.{◌≡◌, sym, ap, ◌∙◌}
 use native.Mathlib.Nat.{div-eq_of_lt, mod-lt, zero-mul}
 use native.Mathlib.Omega.{arith}
-use Rattle.model.proofs.Masks.{bit_of, bit_of_and}
-use Rattle.model.proofs.Tests.{lt_or_le}
+use Rattle.model.proofs.Masks.{bit_of, bit_small, bit_of_and}
+use Rattle.model.proofs.Tests.{lt_or_le, eq_or_ne, true_false}
 use Rattle.model.specs.Runs.{bit}
-use Rattle.std.proofs.lemmas.Nat.{and-not}
 
 -- a mask below 2 ^ i does not name run i
 pub bit_above : (m i : ℕ) → m < 2 ^ i → bit m i ≡ 0
@@ -70,11 +72,14 @@ or_new m i h = or_disjoint m (2 ^ i) (and_power m i ∙ rw h (zero-mul (2 ^ i)))
 pub bit_added : (m i j : ℕ) → bit m j ≡ 0 → i ≢ j → bit (m + 2 ^ j) i ≡ bit m i
 bit_added m i j h n = ap (λ (x : ℕ). bit x i) (sym (or_new m j h)) ∙ bit_kept m i j n
 
--- a mask's bits but one, and that one
-pub bit_taken : (w m i : ℕ) → i < w → m < 2 ^ w → bit_and m (2 ^ w - 1 - 2 ^ i) + bit m i * 2 ^ i ≡ m
-bit_taken w m i h l =
-    let e = and-not w (2 ^ i) m (pow-lt h) l in
-    let a = and_comm m (2 ^ i) in
-    let b = and_comm m (2 ^ w - 1 - 2 ^ i) in
-    let c = and_power m i in
-    omega arith
+-- whether a run is named, tested
+pub bit_named : (m i : ℕ) (b : Bool) → b ≡ eqb (bit m i) 1 → b ≡ true → bit m i ≡ 1
+bit_named m i b e h = eqb-true (bit m i) 1 (sym e ∙ h)
+
+pub bit_unnamed : (m i : ℕ) (b : Bool) → b ≡ eqb (bit m i) 1 → b ≡ false → bit m i ≡ 0
+bit_unnamed m i b e h =
+    let l = bit_small m i in
+    ⊎_elim
+    (λ (q : bit m i ≡ 1). absurd (true_false (eq-eqb (bit m i) 1 q) (sym e ∙ h)))
+    (λ (q : bit m i ≢ 1). omega arith)
+    (eq_or_ne (bit m i) 1)

@@ -82,7 +82,11 @@ pub fn without_run(mask: u64, run: u32) -> u64
     requires { run < mask_bits }
     ensures { result + bit mask run * 2 ^ run ≡ mask }
 {
-    mask & !only_run(run)
+    if names_run(mask, run) {
+        mask - only_run(run)
+    } else {
+        mask
+    }
 }
 
 // The mask that names all the runs below `k`.

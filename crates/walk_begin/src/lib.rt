@@ -26,11 +26,11 @@ fn begin_each(ends: &[u32], firsts: &[u32], chosen: u64, positions: &mut [u32])
     ensures { ChosenAt ends.now firsts.now chosen positions.new (length ends.now) }
 {
     for (i, position) in positions.iter_mut().enumerate() {
-        *position = if mask::names_run(chosen, i as u32) {
-            firsts[i]
+        if mask::names_run(chosen, i as u32) {
+            *position = firsts[i];
         } else {
-            ends[i]
-        };
+            *position = ends[i];
+        }
     }
 }
 
