@@ -16,6 +16,24 @@ pub struct Left {
     pub weight: usize,
 }
 
+// The places in `numbers` that a search goes through.
+#[derive(Clone, Copy)]
+pub struct Places {
+    pub from: usize,
+    pub to: usize,
+}
+
+// A search of a run begins at the run's position and ends at its end.
+fn searched_places(ends: &[u32], positions: &[u32], i: usize) -> Places
+    requires { (i < length ends.now) × (i < length positions.now) }
+    ensures { (result.from ≡ get_or positions.now i 0) × (result.to ≡ get_or ends.now i 0) }
+{
+    Places {
+        from: positions[i] as usize,
+        to: ends[i] as usize,
+    }
+}
+
 // Searches run `run`, which has a number at its position, for v and moves it there.
 pub fn search_run(
     numbers: &[u32],
@@ -32,12 +50,11 @@ pub fn search_run(
     ensures { SearchedRun numbers.now ends.now weights.now positions.old run v tally positions.new result }
 {
     let i = run as usize;
-    let start = positions[i] as usize;
-    let end = ends[i] as usize;
-    let found = walk_search::search(&numbers[start..end], v, tally)?;
-    let next = start + found.place;
+    let places = searched_places(ends, positions, i);
+    let found = walk_search::search(&numbers[places.from..places.to], v, tally)?;
+    let next = places.from + found.place;
     positions[i] = next as u32;
-    let left = walk_weight::moved(weights, i, next, end, weight);
+    let left = walk_weight::moved(weights, i, next, places.to, weight);
     Ok(Left {
         tally: found.tally,
         weight: left,

@@ -10,37 +10,47 @@ pub overflow_add-next : goal.overflow_add-next
 overflow_add-next c =
     let a = c.args in
     let r = c.requires.placeable.0 in
-    let i = place_inside a.numbers.now a.ends.now a.positions.now a.run a.v c.in_ok-found.found.place r.inside r.index c.in_ok-found.ensures.0 in
+    let s = c.searched_places-places.ensures in
+    let e = rw (s.0, s.1) at c.in_ok-found.ensures in
+    let i = place_inside a.numbers.now a.ends.now a.positions.now a.run a.v c.in_ok-found.found.place r.inside r.index e.0 in
     let k = c.type_inv.ends a.run in
-    search rules
+    rw s.0 (search rules)
 
 pub overflow_cast-positions : goal.overflow_cast-positions
 overflow_cast-positions c =
     let a = c.args in
     let r = c.requires.placeable.0 in
-    let i = place_inside a.numbers.now a.ends.now a.positions.now a.run a.v c.in_ok-found.found.place r.inside r.index c.in_ok-found.ensures.0 in
+    let s = c.searched_places-places.ensures in
+    let e = rw (s.0, s.1) at c.in_ok-found.ensures in
+    let i = place_inside a.numbers.now a.ends.now a.positions.now a.run a.v c.in_ok-found.found.place r.inside r.index e.0 in
     let k = c.type_inv.ends a.run in
-    search rules
+    rw s.0 (search rules)
 
 pub moved-left-requires : goal.moved-left-requires
 moved-left-requires c =
     let a = c.args in
     let r = c.requires.placeable.0 in
-    moved_ready a.numbers.now a.ends.now a.positions.now a.run a.v c.in_ok-found.found.place r.inside r.index c.in_ok-found.ensures.0 a.weights.now a.weight
-    (λ j. (c.type_inv.numbers j).fits) c.requires.run_bound.0 c.requires.run_bound.1
+    let s = c.searched_places-places.ensures in
+    let e = rw (s.0, s.1) at c.in_ok-found.ensures in
+    rw (s.0, s.1)
+    (moved_ready a.numbers.now a.ends.now a.positions.now a.run a.v c.in_ok-found.found.place r.inside r.index e.0 a.weights.now a.weight
+    (λ j. (c.type_inv.numbers j).fits) c.requires.run_bound.0 c.requires.run_bound.1)
 
 pub returns : goal.returns
 returns c =
     let a = c.args in
     let r = c.requires.placeable.0 in
-    let e = c.in_ok-found.ensures in
+    let s = c.searched_places-places.ensures in
+    let e = rw (s.0, s.1) at c.in_ok-found.ensures in
+    let l = rw (s.0, s.1) at c.moved-left.ensures in
     let place = c.in_ok-found.found.place in
     let p = get_or a.positions.now a.run 0 in
-    let i = place_inside a.numbers.now a.ends.now a.positions.now a.run a.v place r.inside r.index e.0 in (
+    let i = place_inside a.numbers.now a.ends.now a.positions.now a.run a.v place r.inside r.index e.0 in
+    rw s.0 (
       e.1,
       e.2,
       ap (λ x. set a.positions.now a.run (p + x)) e.0,
       rw e.0 at i,
       in_play_then a.numbers.now a.ends.now a.positions.now a.run a.v place r.inside r.index e.0 a.weights.now a.weight (λ j. (c.type_inv.numbers j).fits)
-          c.requires.run_bound.0 c.requires.run_bound.1 c.moved-left.result c.moved-left.ensures,
+          c.requires.run_bound.0 c.requires.run_bound.1 c.moved-left.result l,
     )
