@@ -1,11 +1,13 @@
 -- Two sides of a pair of runs, and where they are split, as the code has it. Definitions only.
-use Rattle.std.specs.Prelude.{ℕ, ◌+◌, ◌≤◌, ◌<◌, min, true, false, ◌||◌, List, [], ◌∷◌, ◌≡◌, eqb, length, get_or, drop}
+use Rattle.std.specs.Prelude.{ℕ, ◌+◌, ◌≤◌, ◌<◌, min, true, false, ◌||◌, List, [], ◌∷◌, ◌≡◌, eqb, length, get_or, drop, Option, Some, None, Result, Ok, Err}
 use Rattle.insertion_rank.specs.Passed.{begins_with}
 use Rattle.model.specs.Rows.{Rise}
 use Rattle.model.specs.Runs.{most_numbers, one}
 use Rattle.pair_model.specs.Pair.{middle, split_of}
 use Rattle.pair_partition.specs.declared.Places.{Places}
 use Rattle.pair_partition.specs.declared.Split.{Split}
+use Rattle.refusal.specs.declared.Reason.{Reason}
+use Rattle.refusal.specs.declared.Reason.TheVariants.{AnswersFull}
 
 -- two rising lists, the first of no more numbers than there may be
 pub record Risen (a b : List ℕ) : Type 0 where
@@ -39,3 +41,8 @@ pub record Splits (a b : List ℕ) (s : Split) : Type 0 where
 -- the pivot, if it is passed over in both
 unfoldable pub pivot_in : Split → List ℕ
 pivot_in s = elim (eqb s.first.above s.first.below || eqb s.second.above s.second.below) [ true ↦ [] | false ↦ s.pivot ∷ [] ]
+
+-- how many numbers stand in a row, or that one more was due in a full one
+abbrev pub kept_as : Option ℕ → Result ℕ Reason
+kept_as (Some n) = Ok n
+kept_as None = Err AnswersFull

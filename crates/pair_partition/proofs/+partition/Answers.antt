@@ -1,9 +1,10 @@
 -- `partition` calls itself on the sides below and on those above. A call is handed one less than `nesting`, which is enough, since the shorter length falls by half.
 -- What is written is told by `Keeping`. Assumes nothing.
 use Rattle.std.proofs.Common.{◌++◌, take, arith, Ok}
-use Rattle.std.proofs.lemmas.Result.{err_from_is_err_and}
+use Rattle.refusal.specs.declared.Reason.TheVariants.{AnswersFull}
 use Rattle.row_fill.specs.Keeps.{Keeps}
 use Rattle.pair_partition.proofs.Sides.{found_below, below_entered, below_shorter, above_entered, above_shorter, halved_digits}
+use Rattle.pair_partition.specs.Sides.{kept_as}
 use Rattle.pair_partition.proofs.Writing.{lent_end, not_below, after_below, full_below, after_pivot, full_pivot, not_above, after_above}
 use Rattle.pair_partition.proofs.+partition.Goals as goal
 use Rattle.pair_partition.proofs.+partition.Goals.{then-min-gt0+in_ok-below, else-min-gt0}
@@ -25,9 +26,8 @@ partition-requires t c =
 
 pub returns-in_err-below : goal.returns-in_err-below
 returns-in_err-below t c =
-    let p = err_from_is_err_and c.from_residual.result c.from_residual.ensures.1 in
-    rw (p.1, p.2)
-    (full_below c.requires.0 c.split_sides-split.ensures.splits c.args.answers.now c.args.count c.requires.1 c.partition.new.answers c.in_err-below.field-0.0 c.in_err-below.ensures)
+    rw c.from_residual.ensures
+    (full_below c.requires.0 c.split_sides-split.ensures.splits c.args.answers.now c.args.count c.requires.1 c.partition.new.answers AnswersFull c.in_err-below.ensures)
 
 pub put_pivot-requires : goal.put_pivot-requires
 put_pivot-requires t c =
@@ -57,9 +57,8 @@ returns-in_err-kept t c =
           rw (w.answers-is, w.below-is) (not_below e h a.answers.now a.count c.requires.1 (let q = w.if-min-gt0.false in omega (arith, c.min.ensures, q)))
     ] in
     let due = after_below e h a.answers.now a.count c.requires.1 b.answers b.below kept in
-    let p = err_from_is_err_and c.from_residual-in_err-kept.result c.from_residual-in_err-kept.ensures.1 in
-    rw (p.1, p.2)
-    (full_pivot e h a.answers.now a.count c.requires.1 b.answers b.below due c.put_pivot.new.answers c.in_err-kept.field-0.0 c.in_err-kept.ensures)
+    rw c.from_residual-in_err-kept.ensures
+    (full_pivot e h a.answers.now a.count c.requires.1 b.answers b.below due c.put_pivot.new.answers AnswersFull c.in_err-kept.ensures)
 
 pub returns-then-min-eq0 : goal.returns-then-min-eq0
 returns-then-min-eq0 t c =
@@ -119,5 +118,5 @@ returns t c =
     let due = after_below e h a.answers.now a.count c.requires.1 b.answers b.below kept in
     let past = after_pivot e h a.answers.now a.count c.requires.1 b.answers b.below due c.put_pivot.new.answers c.in_ok-kept.kept c.in_ok-kept.ensures in
     let s = c.split_sides-split.result in
-    after_above e h a.answers.now a.count c.requires.1 past c.partition-2.new.answers c.partition-2.result
+    after_above e h a.answers.now a.count c.requires.1 past c.partition-2.new.answers (kept_as c.partition-2.result)
     (rw (lent_end s.first.above a.first.now, lent_end s.second.above a.second.now) at c.partition-2.ensures)
