@@ -8,7 +8,8 @@ fn print_part(rt: &impl Print, list: &[u32], first: u32, last: u32) -> io::Resul
     let part = between::between(list, first, last);
     print!(rt; "{}", part.len())?;
     for bin in part {
-        print!(rt; " {bin}")?;
+        print!(rt; " ")?;
+        print!(rt; "{bin}")?;
     }
     println!(rt)
 }
