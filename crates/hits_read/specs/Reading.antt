@@ -18,8 +18,8 @@ unfoldable pub interrupts : ℤ → Bool
 interrupts (pos e) = eqb e 4
 interrupts (negsuc e) = false
 
--- What a read answered: the number of bytes that it put into the buffer, 0 at the end of the input; or an error, whose errno, if it has one, tells whether it was only
--- interrupted.
+-- What a read answered: the number of bytes that it put into the buffer, 0 at the end of the input; or an error, whose errno, if it has one, tells
+-- whether it was only interrupted.
 unfoldable pub error_reading : Option ℤ → Reading
 error_reading (Some errno) = elim (interrupts errno) [ true ↦ interrupted | false ↦ failed ]
 error_reading None = failed

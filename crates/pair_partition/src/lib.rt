@@ -90,9 +90,9 @@ fn put_pivot(answers: &mut [u32], count: usize, split: Split) -> Option<usize>
     Some(count + 1)
 }
 
-// Writes the bins that both sides have after `count` answers: those below the pivot, the pivot, those above it. An empty side is not entered. `nesting` is how many
-// calls may be nested from here on, this one among them. (An Option comes back in registers; a Result with its reason comes back in memory, by which two interleaved
-// runs took a quarter more time.)
+// Writes the bins that both sides have after `count` answers: those below the pivot, the pivot, those above it. An empty side is not entered. `nesting`
+// is how many calls may be nested from here on, this one among them. (An Option comes back in registers. A Result with its reason comes back in memory,
+// by which two runs side by side took about a quarter more time.)
 fn partition(
     first: &[u32],
     second: &[u32],
