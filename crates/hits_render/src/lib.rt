@@ -53,13 +53,21 @@ fn put_done(
     )
 }
 
+// Writes the text of a refusal by its number, whatever that is, and returns its length if it fits.
+pub fn refuse_number(number: u64, place: usize, text: &mut [u8]) -> Option<usize>
+    ensures shows { Shows (refuse_line number place) text.old text.new result }
+    ensures enough { line_room ≤ length text.old → result ≡ Some (length (refuse_line number place)) }
+{
+    let end = put_refuse(text, number, place);
+    shown(end, text.len())
+}
+
 // Writes the text of a refused input or question, and returns its length if it fits.
 pub fn refuse(refusal: Refusal, text: &mut [u8]) -> Option<usize>
     ensures shows { Shows (refuse_line (number_of refusal.reason) refusal.place) text.old text.new result }
     ensures enough { line_room ≤ length text.old → result ≡ Some (length (refuse_line (number_of refusal.reason) refusal.place)) }
 {
-    let end = put_refuse(text, u64::from(refusal.reason), refusal.place);
-    shown(end, text.len())
+    refuse_number(u64::from(refusal.reason), refusal.place, text)
 }
 
 // Writes the text of an accepted question, whose certificate is the first bytes of a buffer, as many as it says.

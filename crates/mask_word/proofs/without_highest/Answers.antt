@@ -1,5 +1,7 @@
 -- `without_highest` meets its contract: a word's bits are at least the power of 2 of their highest. Assumes nothing.
-use Rattle.mask_word.specs.Runs.{word_is}
+use Prim.Native.Nat.{◌-◌, ◌*◌, ◌^◌}
+use mathlib.Core.Path.{subst⁻¹}
+use Rattle.mask_word.specs.Runs.{word_is, HighestGone}
 use Rattle.mask_word.proofs.Bits.{one_shifted, shifted_some}
 use Rattle.mask_word.proofs.Highest.{highest_gone}
 use Rattle.mask_word.proofs.without_highest.Goals as goal
@@ -14,4 +16,5 @@ unfolding word_is
 returns c =
     let w = c.args.word in
     let e = c.ilog2.ensures in
-    rw (one_shifted 64 c.ilog2.result e.bound) (highest_gone w.base w.bits c.ilog2.result e.power_le e.next_power_gt)
+    subst⁻¹ (λ x. HighestGone (w.bits * 2 ^ w.base) ((w.bits - x) * 2 ^ w.base)) (one_shifted 64 c.ilog2.result e.bound)
+    (highest_gone w.base w.bits c.ilog2.result e.power_le e.next_power_gt)
